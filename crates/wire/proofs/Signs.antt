@@ -1,0 +1,191 @@
+-- Which integers placed numbers and signed fields mean, over the width. Assumes nothing.
+use mathlib.Core.Path.{_≡_, refl, sym, ap, _∙_}
+use mathlib.Core.Bool.{Bool, true, false}
+use Prim.Native.Nat.{ℕ, suc, _+_, _-_, _%_, _^_, _≤_, _<_}
+use native.Mathlib.Nat.{mod-eq-of-lt, mod-eq-sub-mod, lt-of-not-le}
+use native.Mathlib.Decide.{decLt, decLe}
+use native.Mathlib.Omega.{arith}
+use borrow.Author.Tests.{ltb-true, ltb-false, lt-ltb, le-ltb, le-leb, lt-leb}
+use lib.Dec.{ltb, leb}
+use lib.IntN.{ℤ, pos, negsuc, subℕ, _+ℤ_}
+use lib.Signed.{ltZ, leZ}
+use mir.Syntax.{Width}
+use mir.Val.{bits, toZ, ofZ, SFits}
+use mir.ValLaws.{pow-bits, toZ-pos, toZ-ofZ}
+use Rattle.wire.specs.Signs.{half, placed, meant, turned}
+
+not-below : {a b : ℕ} → (a < b → ⊥) → b ≤ a
+not-below h = omega arith
+
+ltb-same : (a b c d : ℕ) → (a < b → c < d) → (c < d → a < b) → ltb a b ≡ ltb c d
+ltb-same a b c d f g = go (decLt c d)
+  where
+    go : Dec (c < d) → ltb a b ≡ ltb c d
+    go (yes h) = lt-ltb a b (g h) ∙ sym (lt-ltb c d h)
+    go (no h) = le-ltb a b (not-below (λ l. h (f l))) ∙ sym (le-ltb c d (not-below h))
+
+leb-same : (a b c d : ℕ) → (a ≤ b → c ≤ d) → (c ≤ d → a ≤ b) → leb a b ≡ leb c d
+leb-same a b c d f g = go (decLe c d)
+  where
+    go : Dec (c ≤ d) → leb a b ≡ leb c d
+    go (yes h) = le-leb a b (g h) ∙ sym (le-leb c d h)
+    go (no h) = lt-leb a b (lt-of-not-le (λ l. h (f l))) ∙ sym (lt-leb c d (lt-of-not-le h))
+
+module _ (w : Width) where
+  -- ---- an integer, placed
+
+  pub placed-below : (z : ℤ) → SFits w z → placed w z < 2 ^ bits w
+  unfolding placed
+  placed-below (pos n) f = let h : n < half w = f .sfits in omega (arith, pow-bits w)
+  placed-below (negsuc n) f = let h : n < half w = f .sfits in omega (arith, pow-bits w)
+
+  -- it is the integer plus half of the range
+  pub placed-sum : (z : ℤ) → SFits w z → pos (placed w z) ≡ z +ℤ pos (half w)
+  unfolding placed
+  placed-sum (pos n) f = refl
+  placed-sum (negsuc n) f =
+      let h : n < half w = f .sfits in
+      let l : suc n ≤ half w = omega arith in
+      simp (le-ltb (half w) (suc n) l)
+
+  pub meant-placed : (z : ℤ) → SFits w z → meant w (placed w z) ≡ z
+  unfolding placed meant
+  meant-placed (pos n) f =
+      let l : half w ≤ n + half w = omega arith in
+      let z : n + half w - half w ≡ n = omega arith in
+      simp (le-ltb (n + half w) (half w) l, z)
+  meant-placed (negsuc n) f =
+      let h : n < half w = f .sfits in
+      let l : half w - suc n < half w = omega arith in
+      let z : half w - suc (half w - suc n) ≡ n = omega arith in
+      simp (lt-ltb (half w - suc n) (half w) l, z)
+
+  pub placed-meant : (x : ℕ) → placed w (meant w x) ≡ x
+  unfolding placed meant
+  placed-meant x = go (ltb x (half w)) refl
+    where
+      go : (b : Bool) → ltb x (half w) ≡ b → placed w (subℕ x (half w)) ≡ x
+      go true e = let l = ltb-true x (half w) e in simp e (omega arith)
+      go false e = let l = ltb-false x (half w) e in simp e (omega arith)
+
+  pub meant-fits : (x : ℕ) → x < 2 ^ bits w → SFits w (meant w x)
+  unfolding meant
+  meant-fits x h = go (ltb x (half w)) refl
+    where
+      go : (b : Bool) → ltb x (half w) ≡ b → SFits w (subℕ x (half w))
+      go true e = let l = ltb-true x (half w) e in simp e (record { sfits = omega arith })
+      go false e = let l = ltb-false x (half w) e in simp e (record { sfits = omega (arith, pow-bits w) })
+
+  -- ---- order is kept: the tests on placed numbers are the tests on the integers that they mean
+
+  pub order-lt : (x y : ℕ) → ltZ (meant w x) (meant w y) ≡ ltb x y
+  unfolding meant
+  order-lt x y = go (ltb x (half w)) (ltb y (half w)) refl refl
+    where
+      go : (a b : Bool) → ltb x (half w) ≡ a → ltb y (half w) ≡ b → ltZ (subℕ x (half w)) (subℕ y (half w)) ≡ ltb x y
+      go true true e f =
+          let l = ltb-true x (half w) e in
+          let m = ltb-true y (half w) f in
+          simp (e, f) (ltb-same (half w - suc y) (half w - suc x) x y (λ h. omega arith) (λ h. omega arith))
+      go true false e f = let l = ltb-true x (half w) e in let m = ltb-false y (half w) f in simp (e, f) (sym (lt-ltb x y (omega arith)))
+      go false true e f = let l = ltb-false x (half w) e in let m = ltb-true y (half w) f in simp (e, f) (sym (le-ltb x y (omega arith)))
+      go false false e f =
+          let l = ltb-false x (half w) e in
+          let m = ltb-false y (half w) f in
+          simp (e, f) (ltb-same (x - half w) (y - half w) x y (λ h. omega arith) (λ h. omega arith))
+
+  pub order-le : (x y : ℕ) → leZ (meant w x) (meant w y) ≡ leb x y
+  unfolding meant
+  order-le x y = go (ltb x (half w)) (ltb y (half w)) refl refl
+    where
+      go : (a b : Bool) → ltb x (half w) ≡ a → ltb y (half w) ≡ b → leZ (subℕ x (half w)) (subℕ y (half w)) ≡ leb x y
+      go true true e f =
+          let l = ltb-true x (half w) e in
+          let m = ltb-true y (half w) f in
+          simp (e, f) (leb-same (half w - suc y) (half w - suc x) x y (λ h. omega arith) (λ h. omega arith))
+      go true false e f = let l = ltb-true x (half w) e in let m = ltb-false y (half w) f in simp (e, f) (sym (le-leb x y (omega arith)))
+      go false true e f = let l = ltb-false x (half w) e in let m = ltb-true y (half w) f in simp (e, f) (sym (lt-leb x y (omega arith)))
+      go false false e f =
+          let l = ltb-false x (half w) e in
+          let m = ltb-false y (half w) f in
+          simp (e, f) (leb-same (x - half w) (y - half w) x y (λ h. omega arith) (λ h. omega arith))
+
+  -- ---- a signed field: its bits are a two's complement
+
+  turned-low : (x : ℕ) → x < half w → turned w x ≡ x + half w
+  turned-low x h = mod-eq-of-lt (omega (arith, pow-bits w))
+
+  turned-high : (x : ℕ) → half w ≤ x → x < 2 ^ bits w → turned w x ≡ x - half w
+  turned-high x l h =
+      let z : x + half w - 2 ^ bits w ≡ x - half w = omega (arith, pow-bits w) in
+      mod-eq-sub-mod (omega (arith, pow-bits w)) ∙ ap (λ (k : ℕ). k % 2 ^ bits w) z ∙ mod-eq-of-lt (omega arith)
+
+  -- the integer that a field of bits x means, as the machine reads it
+  pub turned-meant : (x : ℕ) → x < 2 ^ bits w → meant w (turned w x) ≡ toZ w x
+  unfolding meant
+  turned-meant x h = go (ltb x (half w)) refl
+    where
+      go : (b : Bool) → ltb x (half w) ≡ b → subℕ (turned w x) (half w) ≡ toZ w x
+      go true e =
+          let l = ltb-true x (half w) e in
+          let z : x + half w - half w ≡ x = omega arith in
+          let m : half w ≤ x + half w = omega arith in
+          ap (λ (k : ℕ). subℕ k (half w)) (turned-low x l) ∙ simp (e, le-ltb (x + half w) (half w) m, z)
+      go false e =
+          let l = ltb-false x (half w) e in
+          let m : x - half w < half w = omega (arith, pow-bits w) in
+          let z : half w - suc (x - half w) ≡ 2 ^ bits w - suc x = omega (arith, pow-bits w) in
+          ap (λ (k : ℕ). subℕ k (half w)) (turned-high x l h) ∙ simp (e, lt-ltb (x - half w) (half w) m, z)
+
+  -- the bits to write for an integer are its placed number turned
+  pub turned-placed : (z : ℤ) → SFits w z → turned w (placed w z) ≡ ofZ w z
+  unfolding placed
+  turned-placed (pos n) f = let h : n < half w = f .sfits in turned-high (n + half w) (omega arith) (omega (arith, pow-bits w)) ∙ omega arith
+  turned-placed (negsuc n) f = let h : n < half w = f .sfits in turned-low (half w - suc n) (omega arith) ∙ omega (arith, pow-bits w)
+
+  -- turning twice gives the number back, so writing undoes reading and reading writing
+  pub turned-turned : (x : ℕ) → x < 2 ^ bits w → turned w (turned w x) ≡ x
+  turned-turned x h = go (ltb x (half w)) refl
+    where
+      go : (b : Bool) → ltb x (half w) ≡ b → turned w (turned w x) ≡ x
+      go true e =
+          let l = ltb-true x (half w) e in
+          ap (turned w) (turned-low x l) ∙ turned-high (x + half w) (omega arith) (omega (arith, pow-bits w)) ∙ omega arith
+      go false e =
+          let l = ltb-false x (half w) e in
+          ap (turned w) (turned-high x l h) ∙ turned-low (x - half w) (omega (arith, pow-bits w)) ∙ omega arith
+
+  -- ---- an integer by its sign, as the code takes it apart
+
+  pub negative : (z : ℤ) → SFits w z → ltZ (toZ w (ofZ w z)) (pos 0) ≡ true
+      → (n : ℕ) × (toZ w (2 ^ bits w - 1 - ofZ w z) ≡ pos n) × (n < half w) × (placed w z ≡ half w - suc n)
+  unfolding placed
+  negative (pos a) f e =
+      let q : ltb a 0 ≡ true = rw (toZ-ofZ w (pos a) f) at e in
+      absurd (omega (arith, ltb-true a 0 q))
+  negative (negsuc n) f e =
+      let h : n < half w = f .sfits in
+      let z : 2 ^ bits w - 1 - (2 ^ bits w - suc n) ≡ n = omega (arith, pow-bits w) in
+      (n, rw z (toZ-pos w n h), h, refl)
+
+  pub natural : (z : ℤ) → SFits w z → ltZ (toZ w (ofZ w z)) (pos 0) ≡ false → (n : ℕ) × (toZ w (ofZ w z) ≡ pos n) × (n < half w) × (placed w z ≡ n + half w)
+  unfolding placed
+  natural (pos a) f e = (a, toZ-ofZ w (pos a) f, f .sfits, refl)
+  natural (negsuc n) f e =
+      let q : true ≡ false = rw (toZ-ofZ w (negsuc n) f) at e in
+      absurd (let z : _≡_ {A = ℕ} 0 1 = cc in omega arith)
+
+  -- ---- the integer that a placed number means, as the code makes it
+
+  pub made-negative : (x : ℕ) → x < half w → toZ w (2 ^ bits w - 1 - (half w - 1 - x)) ≡ meant w x
+  unfolding meant
+  made-negative x h =
+      let l : half w ≤ 2 ^ bits w - 1 - (half w - 1 - x) = omega (arith, pow-bits w) in
+      let z : 2 ^ bits w - suc (2 ^ bits w - 1 - (half w - 1 - x)) ≡ half w - suc x = omega (arith, pow-bits w) in
+      simp (le-ltb _ _ l, lt-ltb x (half w) h, z)
+
+  pub made-natural : (x : ℕ) → half w ≤ x → x < 2 ^ bits w → toZ w (x - half w) ≡ meant w x
+  unfolding meant
+  made-natural x h b =
+      let l : x - half w < half w = omega (arith, pow-bits w) in
+      simp (lt-ltb (x - half w) (half w) l, le-ltb x (half w) h)

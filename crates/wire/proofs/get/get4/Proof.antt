@@ -1,0 +1,23 @@
+use Rattle.wire.proofs.Reading.{field-split}
+use native.Mathlib.Omega.{arith}
+use borrow.Author.Needs.{needs}
+use Rattle.wire.proofs.get.get4.Statement.{statement}
+use Rattle.wire.proofs.get.get4.Tie as tie
+
+returns : tie.Need-returns
+returns c =
+    let a = c .before .before .before .args in
+    omega (arith, field-split 2 2 (a .s .now) (a .at))
+
+pub get4-spec : {M : Type 1} → statement M
+get4-spec =
+    tie.close
+    (tie.spec
+    (λ c κs. search needs)
+    (λ c. search needs)
+    (λ c. search needs)
+    (λ c κs. search needs)
+    (λ c. search needs)
+    (λ c. search needs)
+    (λ c. search needs)
+    returns)

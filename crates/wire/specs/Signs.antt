@@ -1,0 +1,22 @@
+-- Signed numbers as numbers that are never negative: each plus half of its width's range. Assumes nothing.
+use Prim.Native.Nat.{ℕ, suc, _+_, _-_, _%_, _^_}
+use lib.IntN.{ℤ, pos, negsuc, subℕ}
+use mir.Syntax.{Width}
+use mir.Val.{bits, hbits}
+
+-- half of the range: 2^31 at 32 bits, 2^63 at 64
+abbrev pub half : Width → ℕ
+half w = 2 ^ hbits w
+
+-- an integer of the width, plus half of the range
+unfoldable pub placed : Width → ℤ → ℕ
+placed w (pos n) = n + half w
+placed w (negsuc n) = half w - suc n
+
+-- the integer that a placed number means
+unfoldable pub meant : Width → ℕ → ℤ
+meant w x = subℕ x (half w)
+
+-- the bits of a two's-complement field as the placed number, and a placed number as the bits
+abbrev pub turned : Width → ℕ → ℕ
+turned w x = (x + half w) % 2 ^ bits w
