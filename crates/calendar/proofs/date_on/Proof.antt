@@ -1,9 +1,8 @@
-use Rattle.calendar.specs.Gregorian.{firstYear}
+use Rattle.calendar.specs.Gregorian.{firstYear, yearDays, monthDays, leap}
 use Rattle.calendar.proofs.Dates.{dayOn, made, has-number}
 use Rattle.calendar.proofs.Years.{year-months}
 use Rattle.calendar.proofs.Totals.{next, next-from-one}
 use Rattle.calendar.specs.Answers.{meaning}
-use Rattle.calendar.specs.Gregorian.{yearDays, monthDays, leap}
 use mathlib.Core.Option.{some}
 use mathlib.Core.Path.{_≡_, ap, _∙_}
 use Prim.Native.Nat.{_+_, _-_}

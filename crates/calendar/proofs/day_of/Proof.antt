@@ -1,6 +1,5 @@
-use Rattle.calendar.proofs.Dates.{dayZero}
+use Rattle.calendar.proofs.Dates.{dayZero, day-placed, within-yes, within-low, within-high}
 use mir.Facts.{toZ-ofZ, sfits-toZ, fits-ofZ}
-use Rattle.calendar.proofs.Dates.{day-placed, within-yes, within-low, within-high}
 use Rattle.calendar.specs.Answers.{within}
 use Rattle.wire.proofs.Signs.{meant-placed}
 use Rattle.wire.specs.Signs.{meant}

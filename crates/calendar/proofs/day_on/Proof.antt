@@ -1,5 +1,4 @@
 use Rattle.calendar.proofs.Dates.{dayOn, valid-of, has-number, has-none}
-use Rattle.calendar.proofs.Dates.{valid-of, has-number, has-none}
 use Rattle.calendar.specs.Answers.{meaning}
 use Rattle.calendar.specs.Gregorian.{elapsed}
 use Prim.Native.Nat.{_+_, _-_}

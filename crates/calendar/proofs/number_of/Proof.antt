@@ -1,8 +1,7 @@
-use Rattle.calendar.proofs.Dates.{dayZero}
+use Rattle.calendar.proofs.Dates.{dayZero, day-placed, within-yes, within-low, within-high}
 use mir.Val.{SFits}
 use mir.Syntax.{w32}
 use mir.Facts.{toZ-ofZ}
-use Rattle.calendar.proofs.Dates.{day-placed, within-yes, within-low, within-high}
 use Rattle.calendar.specs.Answers.{within}
 use Prim.Native.Nat.{_+_}
 use mathlib.Core.Option.{some}

@@ -1,10 +1,8 @@
 use Rattle.calendar.specs.Answers.{firstDay}
-use Rattle.calendar.specs.Gregorian.{firstYear}
+use Rattle.calendar.specs.Gregorian.{firstYear, total, yearDays}
 use Rattle.calendar.proofs.Years.{all-years, years-most, not-last}
 use mathlib.Core.Path.{ap}
 use native.Mathlib.Numerals.{add-one}
-use Rattle.calendar.proofs.Years.{all-years, years-most}
-use Rattle.calendar.specs.Gregorian.{total, yearDays}
 use Prim.Native.Nat.{_+_, _-_, _/_, _≤_, _<_}
 use native.Mathlib.Omega.{arith}
 use Rattle.calendar.proofs.year_of.Statement.{statement}

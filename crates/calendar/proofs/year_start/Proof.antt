@@ -1,9 +1,7 @@
 use Rattle.calendar.specs.Answers.{firstDay}
-use Rattle.calendar.specs.Gregorian.{firstYear}
-use Rattle.calendar.proofs.Totals.{table}
-use Rattle.calendar.proofs.Years.{all-years}
+use Rattle.calendar.specs.Gregorian.{firstYear, leap, yearDays}
 use Rattle.calendar.proofs.Totals.{table, rises}
-use Rattle.calendar.specs.Gregorian.{leap, yearDays}
+use Rattle.calendar.proofs.Years.{all-years}
 use native.Mathlib.Omega.{arith}
 use borrow.Author.Needs.{needs}
 use Rattle.calendar.proofs.year_start.Statement.{statement}

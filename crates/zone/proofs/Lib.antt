@@ -1,0 +1,4 @@
+pub mod Offsets
+pub mod Readings
+pub mod Passing
+pub mod Boundaries

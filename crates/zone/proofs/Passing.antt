@@ -1,0 +1,86 @@
+-- The transitions that have passed, as the code finds them, and what it makes of them. Assumes nothing.
+use mathlib.Core.Path.{_≡_, refl, sym, ap, ap₂, _∙_}
+use mathlib.Core.List.{List, [], _∷_}
+use mathlib.Core.Logic.{⊎-elim}
+use Prim.Native.Nat.{ℕ, zero, suc, _+_, _-_, _*_, _≤_, _<_, _^_}
+use native.Mathlib.Nat.{not-suc-le-zero, le-of-suc-le-suc, eq-or-lt-of-le}
+use native.Mathlib.Numerals.{add-one}
+use native.Mathlib.Omega.{arith}
+use lib.ListN.{length, getD, List·getD-eq-default}
+use Rattle.zone.specs.Units.{mostOffset, mostNs, offsetNs}
+use Rattle.zone.specs.Zone.{Zone, zoneOf, offsetAt, instantBy, resolve}
+use Rattle.zone.specs.Answers.{Each, Spaced, spacingNs, Valid}
+use Rattle.zone.specs.Search.{Passed, around}
+use Rattle.zone.specs.declared.Resolution.the-variants.{Clear}
+use Rattle.zone.proofs.Offsets.{offset-passed, Turn}
+use Rattle.zone.proofs.Readings.{resolve-around, resolve-steady}
+
+-- within a list it does not matter what stands for what is past the end
+pub getD-within : (l : List ℕ) (k d e : ℕ) → k < length l → getD l k d ≡ getD l k e
+getD-within [] k d e h = absurd (not-suc-le-zero h)
+getD-within (x ∷ l) zero d e h = refl
+getD-within (x ∷ l) (suc k) d e h = getD-within l k d e (le-of-suc-le-suc h)
+
+each-at : (lo hi : ℕ) (l : List ℕ) (k : ℕ) → Each lo hi l → k < length l → (lo ≤ getD l k 0) × (getD l k 0 ≤ hi)
+each-at lo hi [] k e h = absurd (not-suc-le-zero h)
+each-at lo hi (x ∷ l) zero e h = (e .0, e .1)
+each-at lo hi (x ∷ l) (suc k) e h = each-at lo hi l k (e .2) (le-of-suc-le-suc h)
+
+pub offset-in : (first : ℕ) (ats os : List ℕ) (k : ℕ) → Valid first ats os → k ≤ length ats → getD (first ∷ os) k 0 ≤ 2 * mostOffset
+offset-in first ats os zero v h = v .first-in
+offset-in first ats os (suc k) v h = each-at 0 (2 * mostOffset) os k (v .offsets-in) (omega (arith, v .alike)) .1
+
+spaced-at : (l : List ℕ) (k : ℕ) → Spaced l → suc k < length l → getD l k 0 + spacingNs ≤ getD l (suc k) 0
+spaced-at [] k s h = absurd (not-suc-le-zero h)
+spaced-at (a ∷ []) k s h = absurd (not-suc-le-zero (le-of-suc-le-suc h))
+spaced-at (a ∷ b ∷ l) zero s h = s .0
+spaced-at (a ∷ b ∷ l) (suc k) s h = spaced-at (b ∷ l) k (s .1) (le-of-suc-le-suc h)
+
+-- ---- the same number has passed until the next transition, and one more from there on
+
+module _ (ats : List ℕ) (u k : ℕ) (p : Passed ats u k) where
+  passed-still : (t : ℕ) → u ≤ t → t < getD ats k (2 ^ 64) → Passed ats t k
+  passed-still t h l = record { most = p .most; last = omega (arith, p .last); next = l }
+
+  passed-next : (t : ℕ) → Spaced ats → k < length ats → getD ats k 0 ≤ t → t < getD ats k 0 + spacingNs → t < 2 ^ 64 → Passed ats t (suc k)
+  passed-next t s b l m f = record { most = b; last = l; next = ⊎-elim (λ e. at-end e) (λ n. before-end n) (eq-or-lt-of-le b) }
+    where
+      at-end : suc k ≡ length ats → t < getD ats (suc k) (2 ^ 64)
+      at-end e = let z = List·getD-eq-default ats (2 ^ 64) {n = suc k} (omega arith) in rw z f
+
+      before-end : suc k < length ats → t < getD ats (suc k) (2 ^ 64)
+      before-end n = omega (arith, spaced-at ats k s n, getD-within ats (suc k) (2 ^ 64) 0 n)
+
+-- ---- a reading x, where k transitions have passed 57,600 s before it
+
+module _ (first : ℕ) (ats os : List ℕ) (ok : Valid first ats os) (x k : ℕ) (low : mostNs ≤ x) (p : Passed ats (x - mostNs) k) where
+  abbrev z : Zone
+  z = zoneOf first ats os
+
+  abbrev o : ℕ
+  o = getD (first ∷ os) k 0
+
+  offset-by : (t j : ℕ) → Passed ats t j → offsetAt z t ≡ getD (first ∷ os) j 0
+  offset-by t j q = offset-passed t first j ats os (ok .spaced) (ok .alike) q
+
+  -- the next one stands too late to matter
+  pub none-near : x + mostNs < getD ats k (2 ^ 64) → resolve z x ≡ Clear (record { 0 = instantBy o x })
+  none-near h =
+      resolve-steady first ats os ok x low o
+      (λ t a b. offset-by t k (passed-still ats (x - mostNs) k p t a (omega arith)))
+
+  -- the next one stands near
+  pub one-near : x + mostNs < 2 ^ 64 → k < length ats → getD ats k 0 ≤ x + mostNs → resolve z x ≡ around (getD ats k 0) (instantBy o x) (instantBy (getD os k 0) x)
+  one-near f h l =
+      let at = getD ats k 0 in
+      let u = x - mostNs in
+      let v = x + mostNs in
+      let same = getD-within ats k (2 ^ 64) 0 h in
+      let was : (t : ℕ) → u ≤ t → t < at → offsetAt z t ≡ o = λ t a m. offset-by t k (passed-still ats u k p t a (omega arith)) in
+      let is : (t : ℕ) → t ≤ v → at ≤ t → offsetAt z t ≡ getD os k 0 =
+      λ t b m. offset-by t (suc k) (passed-next ats u k p t (ok .spaced) h m (omega (arith, p .next)) (omega arith)) in
+      let i = was u (omega arith) (omega (arith, p .next)) in
+      let j = is v (omega arith) l in
+      resolve-around first ats os ok x low at
+      (record { until = λ t a b m. was t a m ∙ sym i; since = λ t a b m. is t b m ∙ sym j })
+      ∙ ap₂ (λ (q r : ℕ). around at (instantBy q x) (instantBy r x)) i j

@@ -1,0 +1,43 @@
+use Rattle.zone.proofs.Boundaries.{boundary-by}
+use Rattle.zone.specs.Zone.{zoneOf}
+use borrow.Author.Needs.{needs}
+use Rattle.zone.proofs.convert.to_utc_at.Statement.{statement}
+use Rattle.zone.proofs.convert.to_utc_at.Tie as tie
+use Rattle.zone.proofs.convert.to_utc_at.Reads as reads
+use Rattle.zone.proofs.convert.to_utc_at.Lts as lts
+use Rattle.zone.proofs.convert.reading_at.Reads as reading-at-reads
+use Rattle.zone.proofs.convert.taken.Reads as taken-reads
+use Rattle.zone.proofs.convert.to_utc.Reads as to-utc-reads
+use Rattle.zone.proofs.convert.uncertain.Reads as uncertain-reads
+
+-- src/convert.rt:160:41
+reading-at-requires : tie.Need-reading-at-requires
+reading-at-requires c κs = search needs
+
+-- src/convert.rt:160:9
+to-utc-requires : tie.Need-to-utc-requires
+to-utc-requires c κs = search needs
+
+-- src/convert.rt:161:9
+taken-requires : tie.Need-taken-requires
+taken-requires c κs = search needs
+
+-- src/convert.rt:162:9
+uncertain-requires : tie.Need-uncertain-requires
+uncertain-requires c κs = search needs
+
+-- src/convert.rt:156:1
+returns : tie.Need-returns
+returns c =
+    let at-uncertain = c in
+    let at-taken = at-uncertain .before in
+    let at-to-utc = at-taken .before in
+    let at-reading-at = at-to-utc .before in
+    let at-start = at-reading-at .before .before .before in
+    boundary-by (zoneOf (at-start .args .first) ((at-start .args .ats) .now) ((at-start .args .offsets) .now)) ((at-start .args .d) .0) (at-start .args .time) ((at-reading-at .reading-at .result) .0) (at-start .args .published) (at-uncertain .uncertain .result) (at-to-utc .to-utc .result)
+    ((at-taken .taken .result) .0) (at-reading-at .reading-at .ensures) (at-to-utc .to-utc .ensures) (at-taken .taken .ensures) (at-uncertain .uncertain .ensures)
+
+pub to-utc-at-spec : {M : Type 1} → statement M
+to-utc-at-spec =
+    tie.close
+    (tie.spec reading-at-requires to-utc-requires taken-requires uncertain-requires returns)

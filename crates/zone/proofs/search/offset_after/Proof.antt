@@ -1,0 +1,38 @@
+use lib.ListN.{getD}
+use native.Mathlib.Omega.{arith}
+use Prim.Native.Nat.{ℕ, suc, _-_}
+use mathlib.Core.Path.{_≡_, ap}
+use mathlib.Core.List.{_∷_}
+use borrow.Author.Needs.{needs}
+use Rattle.zone.proofs.search.offset_after.Statement.{statement}
+use Rattle.zone.proofs.search.offset_after.Tie as tie
+use Rattle.zone.proofs.search.offset_after.Reads as reads
+use Rattle.zone.proofs.search.offset_after.Lts as lts
+
+-- src/search.rt:38:17
+sub-result : tie.Need-sub-result
+sub-result c = search needs
+
+-- src/search.rt:38:9
+mul-result : tie.Need-mul-result
+mul-result c = search needs
+
+-- src/search.rt:38:9
+shared-slice-read-result : tie.Need-shared-slice-read-result
+shared-slice-read-result c = search needs
+
+-- src/search.rt:31:1
+returns : tie.Need-returns
+returns c = search needs
+
+-- src/search.rt:31:1
+returns-2 : tie.Need-returns-2
+returns-2 c =
+    let at-start = c .before .before in
+    let n = (at-start .args .count) in
+    let z : suc (n - 1) ≡ n = omega arith in
+    ap (λ (k : ℕ). getD ((at-start .args .first) ∷ (at-start .args .offsets) .now) k 0) z
+
+pub offset-after-spec : {M : Type 1} → statement M
+offset-after-spec =
+    tie.close (tie.spec sub-result mul-result shared-slice-read-result returns returns-2)

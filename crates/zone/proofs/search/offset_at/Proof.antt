@@ -1,0 +1,34 @@
+use Rattle.zone.proofs.Passing.{offset-in}
+use Rattle.zone.proofs.Offsets.{offset-passed}
+use native.Mathlib.Omega.{arith}
+use mathlib.Core.Path.{_≡_, sym, _∙_}
+use borrow.Author.Needs.{needs}
+use Rattle.zone.proofs.search.offset_at.Statement.{statement}
+use Rattle.zone.proofs.search.offset_at.Tie as tie
+use Rattle.zone.proofs.search.offset_at.Reads as reads
+use Rattle.zone.proofs.search.offset_at.Lts as lts
+use Rattle.zone.proofs.search.offset_after.Reads as offset-after-reads
+use Rattle.zone.proofs.search.passed.Reads as passed-reads
+
+-- src/search.rt:45:9
+passed-requires : tie.Need-passed-requires
+passed-requires c κs = search needs
+
+-- src/search.rt:46:5
+offset-after-requires : tie.Need-offset-after-requires
+offset-after-requires c κs = search needs
+
+-- src/search.rt:41:1
+returns : tie.Need-returns
+returns c =
+    let at-offset-after = c in
+    let at-passed = at-offset-after .before in
+    let at-start = at-passed .before .before .before in
+    let ats = (at-start .args .ats) .now in
+    let os = (at-start .args .offsets) .now in
+    let k = (at-passed .passed .result) in
+    let is = offset-passed ((at-start .args .t) .0) (at-start .args .first) k ats os ((at-start .pre) .spaced) ((at-start .pre) .alike) (at-passed .passed .ensures) in
+    ((at-offset-after .offset-after .ensures) ∙ sym is, omega (arith, offset-in (at-start .args .first) ats os k (at-start .pre) ((at-passed .passed .ensures) .most)))
+
+pub offset-at-spec : {M : Type 1} → statement M
+offset-at-spec = tie.close (tie.spec passed-requires offset-after-requires returns)

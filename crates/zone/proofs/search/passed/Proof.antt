@@ -1,0 +1,96 @@
+use Rattle.zone.proofs.Passing.{getD-within}
+use lib.ListN.{length, getD, List·getD-eq-default}
+use native.Mathlib.Omega.{arith}
+use native.Mathlib.Numerals.{add-one}
+use native.Mathlib.Nat.{le-refl}
+use Prim.Native.Nat.{_+_, _-_, _/_, _≤_, _<_, _^_}
+use mathlib.Core.Path.{_≡_}
+use mathlib.Core.List.{_∷_}
+use Rattle.zone.proofs.search.passed.Statement.{statement}
+use Rattle.zone.proofs.search.passed.Tie as tie
+use Rattle.zone.proofs.search.passed.Reads as reads
+use Rattle.zone.proofs.search.passed.Lts as lts
+
+abbrev Inv-loop : tie.InvT-loop
+Inv-loop ats t low₀ high₀ low high =
+    (low ≤ high) × (high ≤ length ats) × (getD (0 ∷ ats) low 0 ≤ t) × (t < getD ats high (2 ^ 64))
+
+abbrev μ-loop : tie.MeasureT-loop
+μ-loop ats t low₀ high₀ low high = high - low
+
+-- src/search.rt:18:5
+loop-holds : tie.Need-loop-holds Inv-loop μ-loop
+loop-holds c =
+    let at-start = c in
+    let z = List·getD-eq-default ((at-start .args .ats) .now) (2 ^ 64) (le-refl (length ((at-start .args .ats) .now))) in
+    (omega arith, omega arith, omega arith, rw z (omega arith))
+
+-- src/search.rt:19:29
+sub-middle : tie.Need-sub-middle Inv-loop μ-loop
+sub-middle c = omega arith
+
+-- src/search.rt:19:22
+add-middle : tie.Need-add-middle Inv-loop μ-loop
+add-middle c = omega arith
+
+-- src/search.rt:20:12
+mul-if1 : tie.Need-mul-if1 Inv-loop μ-loop
+mul-if1 c = omega arith
+
+-- src/search.rt:20:12
+shared-slice-read-if1 : tie.Need-shared-slice-read-if1 Inv-loop μ-loop
+shared-slice-read-if1 c = omega arith
+
+-- src/search.rt:21:19
+add-low : tie.Need-add-low Inv-loop μ-loop
+add-low c = omega arith
+
+-- src/search.rt:18:5
+loop-less : tie.Need-loop-less Inv-loop μ-loop
+loop-less c = omega arith
+
+-- src/search.rt:18:5
+loop-again : tie.Need-loop-again Inv-loop μ-loop
+loop-again c =
+    let at-if1 = c in
+    let at-loop = at-if1 .before .before .before in
+    let m = (at-loop .loop .low) + ((at-loop .loop .high) - (at-loop .loop .low)) / 2 in
+    (omega arith, omega arith, rw (add-one m) (at-if1 .if1 .taken), (at-loop .loop .inv .3))
+
+-- src/search.rt:18:5
+loop-less-2 : tie.Need-loop-less-2 Inv-loop μ-loop
+loop-less-2 c = omega arith
+
+-- src/search.rt:18:5
+loop-again-2 : tie.Need-loop-again-2 Inv-loop μ-loop
+loop-again-2 c =
+    let at-if1 = c in
+    let at-loop = at-if1 .before .before .before in
+    let at-start = at-loop .before in
+    let m = (at-loop .loop .low) + ((at-loop .loop .high) - (at-loop .loop .low)) / 2 in
+    (omega arith, omega arith, (at-loop .loop .inv .2), rw (getD-within ((at-start .args .ats) .now) m (2 ^ 64) 0 (omega arith)) (at-if1 .if1 .left))
+
+-- src/search.rt:13:1
+returns : tie.Need-returns Inv-loop μ-loop
+returns c =
+    let at-loop = c .before in
+    let e : (at-loop .loop .high) ≡ (at-loop .loop .low) = omega arith in
+    record { most = omega arith; last = (at-loop .loop .inv .2); next = rw e at (at-loop .loop .inv .3) }
+
+pub passed-spec : {M : Type 1} → statement M
+passed-spec =
+    tie.close
+    (tie.spec
+    Inv-loop
+    μ-loop
+    loop-holds
+    sub-middle
+    add-middle
+    mul-if1
+    shared-slice-read-if1
+    add-low
+    loop-less
+    loop-again
+    loop-less-2
+    loop-again-2
+    returns)

@@ -1,0 +1,54 @@
+-- Instants and readings as numbers: nanoseconds since 1899-12-25T00:00, of UTC or of a venue's wall. Assumes nothing.
+use Prim.Native.Nat.{ℕ, _+_, _-_, _*_, _/_, _%_, min, max}
+use lib.IntN.{ℤ, subℕ}
+use Rattle.calendar.specs.Answers.{firstDay, lastDay, zeroDay}
+
+abbrev pub secondNs : ℕ
+secondNs = 1000000000
+
+abbrev pub dayNs : ℕ
+dayNs = 86400 * secondNs
+
+-- document 01's number of an instant: nanoseconds since 1970
+abbrev pub instantNumber : ℕ → ℤ
+instantNumber t = subℕ t (zeroDay * dayNs)
+
+-- an offset is kept in seconds and never negative: plus 57,600, the most that it can be
+abbrev pub mostOffset : ℕ
+mostOffset = 57600
+
+abbrev pub mostNs : ℕ
+mostNs = mostOffset * secondNs
+
+abbrev pub offsetNs : ℕ → ℕ
+offsetNs o = o * secondNs
+
+-- Each number of a week before 1900-01-01 and after 2199-12-31 is an instant, less a day at either end for readings, and one more
+-- for what readings convert to. A number outside counts as the nearest inside, as the Rust saturates at its library's bounds.
+abbrev pub firstInstant : ℕ
+firstInstant = (firstDay - 6) * dayNs
+
+abbrev pub lastInstant : ℕ
+lastInstant = (lastDay + 8) * dayNs
+
+abbrev pub firstReading : ℕ
+firstReading = (firstDay - 5) * dayNs
+
+abbrev pub lastReading : ℕ
+lastReading = (lastDay + 7) * dayNs
+
+abbrev pub nearestInstant : ℕ → ℕ
+nearestInstant t = max firstInstant (min t lastInstant)
+
+abbrev pub nearestReading : ℕ → ℕ
+nearestReading x = max firstReading (min x lastReading)
+
+-- the date and the time of day of a reading, and the reading at a time of a date
+abbrev pub readingDay : ℕ → ℕ
+readingDay x = x / dayNs
+
+abbrev pub readingTime : ℕ → ℕ
+readingTime x = x % dayNs
+
+abbrev pub readingAt : ℕ → ℕ → ℕ
+readingAt d x = min d (lastDay + 6) * dayNs + min x dayNs

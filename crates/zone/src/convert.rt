@@ -1,0 +1,172 @@
+// Readings of instants, and instants of readings.
+ghost use mathlib.Core.Path.{_≡_};
+ghost use Prim.Native.Nat.{_*_, _≤_, min, max};
+ghost use Rattle.zone.specs.Units.{mostOffset, firstReading, lastReading, nearestReading, readingDay, readingTime, readingAt};
+ghost use Rattle.zone.specs.Zone.{zoneOf, readingOf, dateAt, instantBy, resolve};
+ghost use Rattle.zone.specs.Answers.{Valid, boundaryAt};
+ghost use Rattle.zone.specs.Answers.{taken as Answers·taken, uncertain as Answers·uncertain};
+ghost use Rattle.zone.specs.Search.{around as Search·around};
+use calendar::Day;
+use crate::Boundary;
+use crate::Doubt;
+use crate::Instant;
+use crate::Reading;
+use crate::Resolution;
+use crate::Uncertainty;
+use crate::search::offset_after;
+use crate::search::offset_at;
+use crate::search::passed;
+
+const SECOND_NS: u64 = 1_000_000_000;
+
+const DAY_NS: u64 = 86_400 * SECOND_NS;
+
+const MOST_NS: u64 = 57_600 * SECOND_NS;
+
+const FIRST_INSTANT: u64 = DAY_NS;
+
+const LAST_INSTANT: u64 = 109_587 * DAY_NS;
+
+const FIRST_READING: u64 = 2 * DAY_NS;
+
+const LAST_READING: u64 = 109_586 * DAY_NS;
+
+const LAST_READING_DAY: u64 = 109_585;
+
+// The number from `low` to `high` that is nearest to x.
+fn nearest(low: u64, x: u64, high: u64) -> u64
+    requires { ⌜ low ≤ high ⌝ }
+    ensures { λ r. ⌜ r ≡ max low (min x high) ⌝ }
+{
+    if x < low {
+        return low;
+    }
+    if high < x {
+        return high;
+    }
+    x
+}
+
+// What the wall shows at an instant.
+pub fn reading_of(first: u32, ats: &[u64], offsets: &[u32], t: Instant) -> Reading
+    requires { ⌜ Valid first (now ats) (now offsets) ⌝ }
+    ensures { λ r. ⌜ r .0 ≡ readingOf (zoneOf first (now (ats .entry)) (now (offsets .entry))) (t .0) ⌝ }
+{
+    let u = nearest(FIRST_INSTANT, t.0, LAST_INSTANT);
+    let offset = offset_at(first, ats, offsets, Instant(u)) as u64;
+    Reading(u + offset * SECOND_NS - MOST_NS)
+}
+
+// The date of a reading.
+pub fn day_of_reading(x: Reading) -> Day
+    ensures { λ r. ⌜ r .0 ≡ readingDay (x .0) ⌝ }
+{
+    Day((x.0 / DAY_NS) as u32)
+}
+
+// The time of day of a reading, in nanoseconds.
+pub fn time_of_reading(x: Reading) -> u64
+    ensures { λ r. ⌜ r ≡ readingTime (x .0) ⌝ }
+{
+    x.0 % DAY_NS
+}
+
+// The reading at a time of a date.
+pub fn reading_at(d: Day, time: u64) -> Reading
+    ensures { λ r. ⌜ r .0 ≡ readingAt (d .0) time ⌝ }
+{
+    let day = nearest(0, d.0 as u64, LAST_READING_DAY);
+    Reading(day * DAY_NS + nearest(0, time, DAY_NS))
+}
+
+// The instant of a reading by an offset.
+fn instant_by(offset: u32, x: u64) -> u64
+    requires { ⌜ (offset ≤ 2 * mostOffset) × (firstReading ≤ x) × (x ≤ lastReading) ⌝ }
+    ensures { λ r. ⌜ r ≡ instantBy offset x ⌝ }
+{
+    x + MOST_NS - offset as u64 * SECOND_NS
+}
+
+// Around one transition: a is a reading by the offset before it, b by the one after.
+fn around(at: u64, a: u64, b: u64) -> Resolution
+    ensures { λ r. ⌜ r ≡ Search·around at a b ⌝ }
+{
+    let doubt = Doubt {
+        before: Instant(a),
+        after: Instant(b),
+    };
+    if a < at {
+        if at <= b {
+            return Resolution::Fold(doubt);
+        }
+        return Resolution::Clear(Instant(a));
+    }
+    if at <= b {
+        return Resolution::Clear(Instant(b));
+    }
+    Resolution::Gap(doubt)
+}
+
+// The instants of a reading. At most one transition stands near enough to matter: 57,600 s to either side, where two are never
+// less than 172,800 s apart.
+pub fn to_utc(first: u32, ats: &[u64], offsets: &[u32], x: Reading) -> Resolution
+    requires { ⌜ Valid first (now ats) (now offsets) ⌝ }
+    ensures { λ r. ⌜ r ≡ resolve (zoneOf first (now (ats .entry)) (now (offsets .entry))) (nearestReading (x .0)) ⌝ }
+{
+    let wall = nearest(FIRST_READING, x.0, LAST_READING);
+    let count = passed(ats, wall - MOST_NS);
+    let a = instant_by(offset_after(first, offsets, count), wall);
+    if ats.len() <= count {
+        return Resolution::Clear(Instant(a));
+    }
+    let at = ats[count];
+    if wall + MOST_NS < at {
+        return Resolution::Clear(Instant(a));
+    }
+    around(at, a, instant_by(offsets[count], wall))
+}
+
+// The instant taken for a reading: in a fold the earlier, in a gap the later.
+pub fn taken(r: Resolution) -> Instant
+    ensures { λ t. ⌜ t .0 ≡ Answers·taken r ⌝ }
+{
+    match r {
+        Resolution::Clear(t) => t,
+        Resolution::Fold(d) => d.before,
+        Resolution::Gap(d) => {
+            let before = d.before;
+            let after = d.after;
+            if before.0 < after.0 { after } else { before }
+        }
+    }
+}
+
+// How precisely it is known: the doubt, else what is published.
+fn uncertain(r: Resolution, published: Uncertainty) -> Uncertainty
+    ensures { λ u. ⌜ u ≡ Answers·uncertain r published ⌝ }
+{
+    match r {
+        Resolution::Clear(_) => published,
+        Resolution::Fold(d) => Uncertainty::AmbiguousLocalTime(d),
+        Resolution::Gap(d) => Uncertainty::NonexistentLocalTime(d),
+    }
+}
+
+// The boundary at a time of a date, with the uncertainty that is published for it.
+pub fn to_utc_at(first: u32, ats: &[u64], offsets: &[u32], d: Day, time: u64, published: Uncertainty) -> Boundary
+    requires { ⌜ Valid first (now ats) (now offsets) ⌝ }
+    ensures { λ r. ⌜ r ≡ boundaryAt (zoneOf first (now (ats .entry)) (now (offsets .entry))) (d .0) time published ⌝ }
+{
+    let r = to_utc(first, ats, offsets, reading_at(d, time));
+    let at = taken(r);
+    let uncertainty = uncertain(r, published);
+    Boundary { at, uncertainty }
+}
+
+// The date that the wall shows at an instant.
+pub fn day_at(first: u32, ats: &[u64], offsets: &[u32], t: Instant) -> Day
+    requires { ⌜ Valid first (now ats) (now offsets) ⌝ }
+    ensures { λ r. ⌜ r .0 ≡ dateAt (zoneOf first (now (ats .entry)) (now (offsets .entry))) (t .0) ⌝ }
+{
+    day_of_reading(reading_of(first, ats, offsets, t))
+}

@@ -1,0 +1,49 @@
+// Instants and a venue's wall readings, after RFC 9636: the only crate that adds an offset or takes one away.
+mod search;
+mod convert;
+mod wide;
+
+pub use convert::day_at;
+pub use convert::day_of_reading;
+pub use convert::reading_at;
+pub use convert::reading_of;
+pub use convert::taken;
+pub use convert::time_of_reading;
+pub use convert::to_utc;
+pub use convert::to_utc_at;
+pub use search::offset_at;
+pub use wide::widest;
+
+// Nanoseconds since 1899-12-25T00:00 UTC.
+pub struct Instant(pub u64);
+
+// Nanoseconds since 1899-12-25T00:00 on a venue's wall.
+pub struct Reading(pub u64);
+
+// A reading that a transition makes doubtful, by the offset before the transition and by the one after it.
+pub struct Doubt {
+    pub before: Instant,
+    pub after: Instant,
+}
+
+// The instants of a reading: one, two, or none.
+pub enum Resolution {
+    Clear(Instant),
+    Fold(Doubt),
+    Gap(Doubt),
+}
+
+// How precisely an instant is known. A width is in nanoseconds, a text is a number.
+pub enum Uncertainty {
+    Exact,
+    PublishedGranularity(u64),
+    PublishedBound(u64, u16),
+    ProcessStart(u16),
+    AmbiguousLocalTime(Doubt),
+    NonexistentLocalTime(Doubt),
+}
+
+pub struct Boundary {
+    pub at: Instant,
+    pub uncertainty: Uncertainty,
+}
