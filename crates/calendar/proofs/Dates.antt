@@ -6,13 +6,13 @@ use Prim.Native.Nat.{ℕ, zero, suc, _+_, _-_, _≤_, _<_}
 use native.Mathlib.Decide.{decLe}
 use native.Mathlib.Omega.{arith}
 use borrow.Author.Tests.{leb-true, ltb-true, ltb-false, le-leb, lt-leb, lt-ltb, le-ltb}
-use lib.Dec.{ltb, leb}
+use lib.Dec.{leb, lit≤}
 use lib.IntN.{ℤ, pos, negsuc, subℕ}
 use mir.Syntax.{w32}
-use Rattle.wire.specs.Signs.{half, meant}
-use Rattle.wire.proofs.Signs.{order-le}
+use Rattle.wire.specs.Signs.{meant}
+use Rattle.wire.proofs.Signs.{and-true, shifted, origin, counted, counted-once, between-yes, between-low, between-high, between-found}
 use Rattle.calendar.specs.Gregorian.{firstYear, lastYear, total, leap, yearDays, monthDays, elapsed, isDate, number, dayNumber}
-use Rattle.calendar.specs.Answers.{firstDay, lastDay, zeroDay, meaning, inDomain, within}
+use Rattle.calendar.specs.Answers.{firstDay, lastDay, zeroDay, meaning, within}
 use Rattle.calendar.proofs.Totals.{apart, unique}
 use Rattle.calendar.proofs.Years.{all-years, year-months, no-month, no-month-zero}
 
@@ -37,10 +37,6 @@ months-to b m d h l = go (decLe m 12)
     go : Dec (m ≤ 12) → m ≤ 12
     go (yes p) = p
     go (no p) = absurd (omega (arith, no-month b m (omega arith)))
-
-pub and-true : (a b : Bool) → (a && b) ≡ true → (a ≡ true) × (b ≡ true)
-and-true true b e = (refl, e)
-and-true false b e = (e, absurd (let z : _≡_ {A = ℕ} 0 1 = cc in omega arith))
 
 pub valid-of : (y m d : ℕ) → firstYear ≤ y → y ≤ lastYear → 1 ≤ d → d ≤ monthDays (leap y) m → Valid y m d
 valid-of y m d a b e f =
@@ -75,19 +71,6 @@ no-date y m d f = go (isDate y m d) refl
 
 -- ---- Days
 
-shifted : (k a b : ℕ) → subℕ (a + k) (b + k) ≡ subℕ a b
-shifted k a b = go (ltb a b) refl
-  where
-    go : (t : Bool) → ltb a b ≡ t → subℕ (a + k) (b + k) ≡ subℕ a b
-    go true e =
-        let l = ltb-true a b e in
-        let z : b + k - suc (a + k) ≡ b - suc a = omega arith in
-        simp (e, lt-ltb (a + k) (b + k) (omega arith), z)
-    go false e =
-        let l = ltb-false a b e in
-        let z : a + k - (b + k) ≡ a - b = omega arith in
-        simp (e, le-ltb (a + k) (b + k) (omega arith), z)
-
 -- the Day of a date: 1900-01-01 is Day 7
 abbrev pub dayOn : ℕ → ℕ → ℕ → ℕ
 dayOn y m d = elapsed y m d + firstDay
@@ -119,19 +102,7 @@ numbered-date y m d n e = go (isDate y m d) refl
 
 -- two Days that mean the same are one
 pub meaning-once : (a b : ℕ) → meaning a ≡ meaning b → a ≡ b
-meaning-once a b e = go (ltb a zeroDay) (ltb b zeroDay) refl refl
-  where
-    go : (s t : Bool) → ltb a zeroDay ≡ s → ltb b zeroDay ≡ t → a ≡ b
-    go true true i j =
-        let k : negsuc (zeroDay - suc a) ≡ negsuc (zeroDay - suc b) = simp (i, j) at e in
-        let l : zeroDay - suc a ≡ zeroDay - suc b = cc in
-        omega (arith, ltb-true a zeroDay i, ltb-true b zeroDay j)
-    go true false i j = absurd (let k : negsuc (zeroDay - suc a) ≡ pos (b - zeroDay) = simp (i, j) at e in let z : _≡_ {A = ℕ} 0 1 = cc in omega arith)
-    go false true i j = absurd (let k : pos (a - zeroDay) ≡ negsuc (zeroDay - suc b) = simp (i, j) at e in let z : _≡_ {A = ℕ} 0 1 = cc in omega arith)
-    go false false i j =
-        let k : pos (a - zeroDay) ≡ pos (b - zeroDay) = simp (i, j) at e in
-        let l : a - zeroDay ≡ b - zeroDay = cc in
-        omega (arith, ltb-false a zeroDay i, ltb-false b zeroDay j)
+meaning-once a b e = counted-once w32 zeroDay (lit≤ tt) a b e
 
 -- ---- a date lies within its year, and within the calendar
 
@@ -182,28 +153,23 @@ made k m j hk hm hj =
 
 -- Day 0, placed
 abbrev pub dayZero : ℕ
-dayZero = half w32 - zeroDay
+dayZero = origin w32 zeroDay (lit≤ tt)
 
 pub day-placed : (d : ℕ) → meaning d ≡ meant w32 (d + dayZero)
-unfolding meant
-day-placed d = sym (shifted dayZero d zeroDay)
+day-placed d = counted w32 zeroDay (lit≤ tt) d
 
--- which placed numbers are day numbers of the domain
-pub in-domain : (p : ℕ) → inDomain (meant w32 p) ≡ (leb (dayZero + firstDay) p && leb p (dayZero + lastDay))
-unfolding meant
-in-domain p = ap₂ _&&_ (order-le w32 (dayZero + firstDay) p) (order-le w32 p (dayZero + lastDay))
+pub within-yes : (p : ℕ) → firstDay + dayZero ≤ p → p ≤ lastDay + dayZero → within (meant w32 p) ≡ some (meant w32 p)
+within-yes p a b = between-yes w32 zeroDay (lit≤ tt) firstDay lastDay p a b
 
-pub within-yes : (p : ℕ) → (dayZero + firstDay) ≤ p → p ≤ (dayZero + lastDay) → within (meant w32 p) ≡ some (meant w32 p)
-unfolding within
-within-yes p a b = rw (in-domain p) (simp (le-leb (dayZero + firstDay) p a, le-leb p (dayZero + lastDay) b))
+pub within-low : (p : ℕ) → p < firstDay + dayZero → within (meant w32 p) ≡ none
+within-low p h = between-low w32 zeroDay (lit≤ tt) firstDay lastDay p h
 
-pub within-low : (p : ℕ) → p < (dayZero + firstDay) → within (meant w32 p) ≡ none
-unfolding within
-within-low p h = rw (in-domain p) (simp (lt-leb (dayZero + firstDay) p h))
+pub within-high : (p : ℕ) → lastDay + dayZero < p → within (meant w32 p) ≡ none
+within-high p h = between-high w32 zeroDay (lit≤ tt) firstDay lastDay p h
 
-pub within-high : (p : ℕ) → (dayZero + lastDay) < p → within (meant w32 p) ≡ none
-unfolding within
-within-high p h = rw (in-domain p) (simp (le-leb (dayZero + firstDay) p (omega arith), lt-leb p (dayZero + lastDay) h))
+-- a Day that was found for a day number means it, and is one of the calendar
+pub within-day : (d : ℕ) (n : ℤ) → some (meaning d) ≡ within n → (meaning d ≡ n) × (firstDay ≤ d) × (d ≤ lastDay)
+within-day d n e = between-found w32 zeroDay (lit≤ tt) firstDay lastDay d n e
 
 -- a date's day number is one of the domain
 pub date-within : (y m d : ℕ) (n : ℤ) → dayNumber y m d ≡ some n → within n ≡ some n
@@ -212,17 +178,3 @@ date-within y m d n e =
     let p = dayOn y m d + dayZero in
     let is : meant w32 p ≡ n = sym (day-placed (dayOn y m d)) ∙ known .1 in
     subst (λ (k : ℤ). within k ≡ some k) is (within-yes p (omega arith) (omega (arith, in-calendar y m d (known .0))))
-
--- a Day that was found for a day number means it, and is one of the calendar
-pub within-day : (d : ℕ) (n : ℤ) → some (meaning d) ≡ within n → (meaning d ≡ n) × (firstDay ≤ d) × (d ≤ lastDay)
-unfolding within
-within-day d n e = go (inDomain n) refl
-  where
-    go : (b : Bool) → inDomain n ≡ b → (meaning d ≡ n) × (firstDay ≤ d) × (d ≤ lastDay)
-    go false i = absurd (let h : some (meaning d) ≡ none = rw i at e in let z : _≡_ {A = ℕ} 0 1 = cc in omega arith)
-    go true i =
-        let h : some (meaning d) ≡ some n = rw i at e in
-        let is : meaning d ≡ n = cc in
-        let p = d + dayZero in
-        let both = and-true (leb (dayZero + firstDay) p) (leb p (dayZero + lastDay)) (sym (in-domain p) ∙ ap inDomain (sym (day-placed d) ∙ is) ∙ i) in
-        (is, omega (arith, leb-true (dayZero + firstDay) p (both .0)), omega (arith, leb-true p (dayZero + lastDay) (both .1)))

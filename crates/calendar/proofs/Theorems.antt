@@ -1,7 +1,7 @@
 -- A conversion has one answer, each undoes the other, every day number of the domain has a date, and the next day is the next date's.
 -- Assumes nothing.
 use mathlib.Core.Path.{_≡_, refl, sym, ap, _∙_}
-use mathlib.Core.Bool.{Bool, true, false, _&&_}
+use mathlib.Core.Bool.{Bool, true, false, cond, _&&_}
 use mathlib.Core.List.{List, [], _∷_}
 use mathlib.Core.Option.{none, some}
 use Prim.Native.Nat.{ℕ, zero, suc, _+_, _-_, _%_, _≤_, _<_}
@@ -11,10 +11,13 @@ use native.Mathlib.Omega.{arith}
 use borrow.Author.Tests.{ltb-true, ltb-false, lt-ltb, le-ltb, leb-true}
 use lib.Dec.{T, ltb, leb, leb→le}
 use lib.IntN.{ℤ, pos, negsuc}
+use lib.Signed.{leZ}
+use Rattle.wire.specs.Signs.{between}
+use Rattle.wire.proofs.Signs.{and-true}
 use lib.ListN.{length, getD}
 use mir.Facts.{and-yes}
 use Rattle.calendar.specs.Gregorian.{firstYear, lastYear, total, leap, yearDays, months, monthDays, elapsed, number, dayNumber, Civil, nextDate}
-use Rattle.calendar.specs.Answers.{firstDay, lastDay, zeroDay, meaning, inDomain, numbered, found, DateOf, weekdayOf}
+use Rattle.calendar.specs.Answers.{firstDay, lastDay, zeroDay, meaning, within, numbered, found, DateOf, weekdayOf}
 use Rattle.calendar.specs.declared.Date.{Date}
 use Rattle.calendar.specs.declared.Numbered.{Numbered}
 use Rattle.calendar.specs.declared.Numbered.the-variants.{Number, NoNumber}
@@ -25,7 +28,7 @@ use Rattle.calendar.specs.declared.Dated.the-variants.{Is, NoDate}
 use Rattle.calendar.proofs.Totals
 use Rattle.calendar.proofs.Totals.{next, next-from-one, rises}
 use Rattle.calendar.proofs.Years.{year-months, all-years}
-use Rattle.calendar.proofs.Dates.{Valid, valid-of, dayOn, day-means, has-number, numbered-date, one-date, meaning-once, and-true}
+use Rattle.calendar.proofs.Dates.{Valid, valid-of, dayOn, day-means, has-number, numbered-date, one-date, meaning-once}
 
 -- ---- no second answer fits
 
@@ -172,22 +175,24 @@ has-date (suc k) h =
     (nextDate (on .0), more .0, omega (arith, more .1, on .2))
 
 -- the Day of a day number of the domain
-on-day : (n : ℤ) → inDomain n ≡ true → (d : ℕ) × (firstDay ≤ d) × (d ≤ lastDay) × (meaning d ≡ n)
+on-day : (n : ℤ) → (leZ (negsuc 25566) n && leZ n (pos 84005)) ≡ true → (d : ℕ) × (firstDay ≤ d) × (d ≤ lastDay) × (meaning d ≡ n)
 on-day (pos a) e =
     let h = leb-true a 84005 e in
     let z : a + zeroDay - zeroDay ≡ a = omega arith in
     (a + zeroDay, omega arith, omega arith, simp (le-ltb (a + zeroDay) zeroDay (omega arith), z))
 on-day (negsuc a) e =
     let h = leb-true a 25566 (and-true (leb a 25566) true e .0) in
-    let z : zeroDay - suc (25573 - a) ≡ a = omega arith in
-    (25573 - a, omega arith, omega arith, simp (lt-ltb (25573 - a) zeroDay (omega arith), z))
+    let d = zeroDay - suc a in
+    let z : zeroDay - suc d ≡ a = omega arith in
+    (d, omega arith, omega arith, simp (lt-ltb d zeroDay (omega arith), z))
 
 -- a conversion that finds no date was asked for a day number outside the domain
-pub none-outside : (n : ℤ) → DateOf n NoDate → inDomain n ≡ false
-none-outside n no-date = go (inDomain n) refl
+pub none-outside : (n : ℤ) → DateOf n NoDate → within n ≡ none
+unfolding between
+none-outside n no-date = go (leZ (negsuc 25566) n && leZ n (pos 84005)) refl
   where
-    go : (b : Bool) → inDomain n ≡ b → inDomain n ≡ false
-    go false e = e
+    go : (b : Bool) → (leZ (negsuc 25566) n && leZ n (pos 84005)) ≡ b → cond b (some n) none ≡ none
+    go false e = refl
     go true e =
         let on = on-day n e in
         let x = has-date (on .0 - firstDay) (omega (arith, on .2)) in

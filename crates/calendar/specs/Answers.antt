@@ -1,10 +1,9 @@
 -- What the conversions answer, in document 01's numbers. Assumes nothing.
 use Prim.Native.Nat.{ℕ, _%_}
 use mathlib.Core.Path.{_≡_}
-use mathlib.Core.Bool.{Bool, cond, _&&_}
 use mathlib.Core.Option.{Option, none, some}
 use lib.IntN.{ℤ, pos, negsuc, subℕ}
-use lib.Signed.{leZ}
+use Rattle.wire.specs.Signs.{between}
 use Rattle.calendar.specs.Gregorian.{dayNumber}
 use Rattle.calendar.specs.declared.Numbered.{Numbered}
 use Rattle.calendar.specs.declared.Numbered.the-variants.{Number, NoNumber}
@@ -27,17 +26,13 @@ zeroDay = 25574
 abbrev pub meaning : ℕ → ℤ
 meaning d = subℕ d zeroDay
 
--- -25,567 to 84,005
-abbrev pub inDomain : ℤ → Bool
-inDomain n = leZ (negsuc 25566) n && leZ n (pos 84005)
-
 -- Monday 0 to Sunday 6
 abbrev pub weekdayOf : ℕ → ℕ
 weekdayOf d = d % 7
 
--- a day number of the domain; another is none
-unfoldable pub within : ℤ → Option ℤ
-within n = cond (inDomain n) (some n) none
+-- a day number from -25,567 to 84,005; another is none
+abbrev pub within : ℤ → Option ℤ
+within n = between (negsuc 25566) (pos 84005) n
 
 -- the day number that an answer gives, and that of the Day that an answer gives
 abbrev pub numbered : Numbered → Option ℤ

@@ -1,18 +1,41 @@
 -- Which integers placed numbers and signed fields mean, over the width. Assumes nothing.
-use mathlib.Core.Path.{_≡_, refl, sym, ap, _∙_}
-use mathlib.Core.Bool.{Bool, true, false}
+use mathlib.Core.Path.{_≡_, refl, sym, ap, ap₂, _∙_}
+use mathlib.Core.Bool.{Bool, true, false, _&&_}
+use mathlib.Core.Option.{none, some}
 use Prim.Native.Nat.{ℕ, suc, _+_, _-_, _%_, _^_, _≤_, _<_}
 use native.Mathlib.Nat.{mod-eq-of-lt, mod-eq-sub-mod, lt-of-not-le}
 use native.Mathlib.Decide.{decLt, decLe}
 use native.Mathlib.Omega.{arith}
-use borrow.Author.Tests.{ltb-true, ltb-false, lt-ltb, le-ltb, le-leb, lt-leb}
+use borrow.Author.Tests.{ltb-true, ltb-false, lt-ltb, le-ltb, leb-true, le-leb, lt-leb}
 use lib.Dec.{ltb, leb}
 use lib.IntN.{ℤ, pos, negsuc, subℕ, _+ℤ_}
 use lib.Signed.{ltZ, leZ}
 use mir.Syntax.{Width}
 use mir.Val.{bits, toZ, ofZ, SFits}
 use mir.ValLaws.{pow-bits, toZ-pos, toZ-ofZ}
-use Rattle.wire.specs.Signs.{half, placed, meant, turned}
+use Rattle.wire.specs.Signs.{half, placed, meant, turned, between}
+
+pub and-true : (a b : Bool) → (a && b) ≡ true → (a ≡ true) × (b ≡ true)
+and-true true b e = (refl, e)
+and-true false b e = (e, absurd (let z : _≡_ {A = ℕ} 0 1 = cc in omega arith))
+
+and-no : (a : Bool) → (a && false) ≡ false
+and-no true = refl
+and-no false = refl
+
+-- a difference of two numbers that both rise by k
+pub shifted : (k a b : ℕ) → subℕ (a + k) (b + k) ≡ subℕ a b
+shifted k a b = go (ltb a b) refl
+  where
+    go : (t : Bool) → ltb a b ≡ t → subℕ (a + k) (b + k) ≡ subℕ a b
+    go true e =
+        let l = ltb-true a b e in
+        let z : b + k - suc (a + k) ≡ b - suc a = omega arith in
+        simp (e, lt-ltb (a + k) (b + k) (omega arith), z)
+    go false e =
+        let l = ltb-false a b e in
+        let z : a + k - (b + k) ≡ a - b = omega arith in
+        simp (e, le-ltb (a + k) (b + k) (omega arith), z)
 
 not-below : {a b : ℕ} → (a < b → ⊥) → b ≤ a
 not-below h = omega arith
@@ -189,3 +212,54 @@ module _ (w : Width) where
   made-natural x h b =
       let l : x - half w < half w = omega (arith, pow-bits w) in
       simp (lt-ltb (x - half w) (half w) l, le-ltb x (half w) h)
+
+  -- ---- numbers counted from an origin e, as days and instants are: d means d - e, and is placed by adding what is left of the half
+
+  pub meant-once : (x y : ℕ) → meant w x ≡ meant w y → x ≡ y
+  meant-once x y e = sym (placed-meant x) ∙ ap (placed w) e ∙ placed-meant y
+
+  module _ (e : ℕ) (fits : e ≤ half w) where
+    abbrev pub origin : ℕ
+    origin = half w - e
+
+    pub counted : (d : ℕ) → subℕ d e ≡ meant w (d + origin)
+    unfolding meant
+    counted d = let z : e + origin ≡ half w = omega arith in sym (shifted origin d e) ∙ ap (subℕ (d + origin)) z
+
+    pub counted-once : (a b : ℕ) → subℕ a e ≡ subℕ b e → a ≡ b
+    counted-once a b i = omega (arith, meant-once (a + origin) (b + origin) (sym (counted a) ∙ i ∙ counted b))
+
+    -- which placed numbers lie from lo to hi
+    module _ (lo hi : ℕ) where
+      tests : (p : ℕ) → (leZ (subℕ lo e) (meant w p) && leZ (meant w p) (subℕ hi e)) ≡ (leb (lo + origin) p && leb p (hi + origin))
+      tests p =
+          ap₂ (λ (a b : ℤ). leZ a (meant w p) && leZ (meant w p) b) (counted lo) (counted hi)
+          ∙ ap₂ _&&_ (order-le (lo + origin) p) (order-le p (hi + origin))
+
+      pub between-yes : (p : ℕ) → lo + origin ≤ p → p ≤ hi + origin → between (subℕ lo e) (subℕ hi e) (meant w p) ≡ some (meant w p)
+      unfolding between
+      between-yes p a b = rw (tests p) (simp (le-leb (lo + origin) p a, le-leb p (hi + origin) b))
+
+      pub between-low : (p : ℕ) → p < lo + origin → between (subℕ lo e) (subℕ hi e) (meant w p) ≡ none
+      unfolding between
+      between-low p h = rw (tests p) (simp (lt-leb (lo + origin) p h))
+
+      pub between-high : (p : ℕ) → hi + origin < p → between (subℕ lo e) (subℕ hi e) (meant w p) ≡ none
+      unfolding between
+      between-high p h = rw (tests p) (simp (lt-leb p (hi + origin) h, and-no))
+
+      -- a number that was found means what was asked for, and lies from lo to hi
+      pub between-found : (d : ℕ) (n : ℤ) → some (subℕ d e) ≡ between (subℕ lo e) (subℕ hi e) n → (subℕ d e ≡ n) × (lo ≤ d) × (d ≤ hi)
+      unfolding between
+      between-found d n i = go (leZ (subℕ lo e) n && leZ n (subℕ hi e)) refl
+        where
+          go : (b : Bool) → (leZ (subℕ lo e) n && leZ n (subℕ hi e)) ≡ b → (subℕ d e ≡ n) × (lo ≤ d) × (d ≤ hi)
+          go false j = absurd (let h : some (subℕ d e) ≡ none = rw j at i in let z : _≡_ {A = ℕ} 0 1 = cc in omega arith)
+          go true j =
+              let h : some (subℕ d e) ≡ some n = rw j at i in
+              let is : subℕ d e ≡ n = cc in
+              let p = d + origin in
+              let same : meant w p ≡ n = sym (counted d) ∙ is in
+              let both = and-true (leb (lo + origin) p) (leb p (hi + origin))
+                (sym (tests p) ∙ ap (λ (k : ℤ). leZ (subℕ lo e) k && leZ k (subℕ hi e)) same ∙ j) in
+              (is, omega (arith, leb-true (lo + origin) p (both .0)), omega (arith, leb-true p (hi + origin) (both .1)))

@@ -1,6 +1,9 @@
 -- Signed numbers as numbers that are never negative: each plus half of its width's range. Assumes nothing.
 use Prim.Native.Nat.{ℕ, suc, _+_, _-_, _%_, _^_}
+use mathlib.Core.Bool.{cond, _&&_}
+use mathlib.Core.Option.{Option, none, some}
 use lib.IntN.{ℤ, pos, negsuc, subℕ}
+use lib.Signed.{leZ}
 use mir.Syntax.{Width}
 use mir.Val.{bits, hbits}
 
@@ -20,3 +23,7 @@ meant w x = subℕ x (half w)
 -- the bits of a two's-complement field as the placed number, and a placed number as the bits
 abbrev pub turned : Width → ℕ → ℕ
 turned w x = (x + half w) % 2 ^ bits w
+
+-- n, if it lies from lo to hi
+unfoldable pub between : ℤ → ℤ → ℤ → Option ℤ
+between lo hi n = cond (leZ lo n && leZ n hi) (some n) none

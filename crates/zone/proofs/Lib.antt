@@ -2,3 +2,4 @@ pub mod Offsets
 pub mod Readings
 pub mod Passing
 pub mod Boundaries
+pub mod Domain

@@ -8,24 +8,20 @@ ghost use Rattle.zone.specs.Answers.{taken as Answers·taken, uncertain 
 ghost use Rattle.zone.specs.Search.{around as Search·around};
 use calendar::Day;
 use crate::Boundary;
+use crate::DAY_NS;
 use crate::Doubt;
+use crate::FIRST_INSTANT;
 use crate::Instant;
+use crate::LAST_INSTANT;
 use crate::Reading;
 use crate::Resolution;
+use crate::SECOND_NS;
 use crate::Uncertainty;
 use crate::search::offset_after;
 use crate::search::offset_at;
 use crate::search::passed;
 
-const SECOND_NS: u64 = 1_000_000_000;
-
-const DAY_NS: u64 = 86_400 * SECOND_NS;
-
 const MOST_NS: u64 = 57_600 * SECOND_NS;
-
-const FIRST_INSTANT: u64 = DAY_NS;
-
-const LAST_INSTANT: u64 = 109_587 * DAY_NS;
 
 const FIRST_READING: u64 = 2 * DAY_NS;
 

@@ -1,6 +1,7 @@
 // Instants and a venue's wall readings, after RFC 9636: the only crate that adds an offset or takes one away.
 mod search;
 mod convert;
+mod number;
 mod wide;
 
 pub use convert::day_at;
@@ -11,8 +12,20 @@ pub use convert::taken;
 pub use convert::time_of_reading;
 pub use convert::to_utc;
 pub use convert::to_utc_at;
+pub use number::Timed;
+pub use number::instant_of;
+pub use number::number_of;
 pub use search::offset_at;
 pub use wide::widest;
+
+pub(crate) const SECOND_NS: u64 = 1_000_000_000;
+
+pub(crate) const DAY_NS: u64 = 86_400 * SECOND_NS;
+
+// Instants in use: a number outside counts as the nearest inside.
+pub(crate) const FIRST_INSTANT: u64 = DAY_NS;
+
+pub(crate) const LAST_INSTANT: u64 = 109_587 * DAY_NS;
 
 // Nanoseconds since 1899-12-25T00:00 UTC.
 pub struct Instant(pub u64);
