@@ -19,7 +19,7 @@ pub and-true : (a b : Bool) → (a && b) ≡ true → (a ≡ true) × (b ≡ tru
 and-true true b e = (refl, e)
 and-true false b e = (e, absurd (let z : _≡_ {A = ℕ} 0 1 = cc in omega arith))
 
-and-no : (a : Bool) → (a && false) ≡ false
+pub and-no : (a : Bool) → (a && false) ≡ false
 and-no true = refl
 and-no false = refl
 
@@ -261,5 +261,5 @@ module _ (w : Width) where
               let p = d + origin in
               let same : meant w p ≡ n = sym (counted d) ∙ is in
               let both = and-true (leb (lo + origin) p) (leb p (hi + origin))
-                (sym (tests p) ∙ ap (λ (k : ℤ). leZ (subℕ lo e) k && leZ k (subℕ hi e)) same ∙ j) in
+              (sym (tests p) ∙ ap (λ (k : ℤ). leZ (subℕ lo e) k && leZ k (subℕ hi e)) same ∙ j) in
               (is, omega (arith, leb-true (lo + origin) p (both .0)), omega (arith, leb-true p (hi + origin) (both .1)))

@@ -1,14 +1,13 @@
 -- Uncertainties and boundaries, as the code puts them together. Assumes nothing.
-use mathlib.Core.Path.{_≡_, refl, sym, ap, ap₂, _∙_}
-use mathlib.Core.Option.{Option, none, some}
-use Prim.Native.Nat.{ℕ, _≤_, _<_}
-use native.Mathlib.Omega.{arith}
-use Rattle.zone.specs.Units.{nearestReading, readingAt}
-use Rattle.zone.specs.Zone.{Zone, resolve}
+use mathlib.Core.Path.{_≡_, sym, ap, ap₂, _∙_}
+use mathlib.Core.Option.{Option}
+use Prim.Native.Nat.{ℕ, _+_, _-_}
+use Rattle.zone.specs.Units.{mostNs, offsetNs, nearestInstant, nearestReading, readingAt}
+use Rattle.zone.specs.Zone.{Zone, offsetAt, readingOf, resolve}
 use Rattle.zone.specs.Answers.{taken, uncertain, boundary, boundaryAt, width, wider, widestOf}
 use Rattle.zone.specs.declared.Boundary.{Boundary}
 use Rattle.zone.specs.declared.Resolution.{Resolution}
-use Rattle.zone.specs.Search.{bound}
+use Rattle.zone.specs.Private.{bound}
 use Rattle.zone.specs.declared.Uncertainty.{Uncertainty}
 use Rattle.zone.specs.declared.wide.Width.{Width}
 
@@ -28,3 +27,7 @@ pub boundary-by : (z : Zone) (d x w : ℕ) (u v : Uncertainty) (r : Resolution) 
     → _≡_ {A = Boundary} (record { at = record { 0 = t }; uncertainty = v }) (boundaryAt z d x u)
 boundary-by z d x w u v r t a b p q =
     boundary-of t (taken r) v (uncertain r u) p q ∙ ap (λ (s : Resolution). boundary s u) (b ∙ ap (λ (y : ℕ). resolve z (nearestReading y)) a)
+
+-- the reading that the code adds up
+pub reading-by : (z : Zone) (t u o : ℕ) → u ≡ nearestInstant t → o ≡ offsetAt z u → u + offsetNs o - mostNs ≡ readingOf z t
+reading-by z t u o p q = ap (λ (k : ℕ). u + offsetNs k - mostNs) q ∙ ap (λ (k : ℕ). k + offsetNs (offsetAt z k) - mostNs) p

@@ -2,7 +2,7 @@
 use mathlib.Core.Path.{_≡_, refl, sym, ap, _∙_}
 use mathlib.Core.List.{List}
 use mathlib.Core.Option.{none, some}
-use Prim.Native.Nat.{ℕ, _+_, _-_, _*_, _%_, _^_, _≤_, _<_, min, max}
+use Prim.Native.Nat.{ℕ, _+_, _-_, _*_, _≤_, _<_}
 use native.Mathlib.Nat.{mod-eq-of-lt}
 use native.Mathlib.Omega.{arith}
 use lib.Dec.{lit≤}
@@ -16,7 +16,6 @@ use Rattle.zone.specs.Zone.{Zone, zoneOf, offsetAt, Reads, readingOf, re
 use Rattle.zone.specs.Answers.{Valid, within, timed, placedNumber, taken}
 use Rattle.zone.specs.declared.number.Timed.{Timed}
 use Rattle.zone.specs.declared.number.Timed.the-variants.{At, Outside}
-use Rattle.zone.proofs.Offsets.{offset-most}
 use Rattle.zone.proofs.Readings.{Among, among, taken-near}
 
 -- ---- instants and their numbers

@@ -3,3 +3,4 @@ pub mod Readings
 pub mod Passing
 pub mod Boundaries
 pub mod Domain
+pub mod Validity

@@ -2,7 +2,7 @@
 use mathlib.Core.Path.{_≡_, refl, sym, ap, _∙_}
 use mathlib.Core.Bool.{Bool, true, false, cond}
 use mathlib.Core.List.{List, [], _∷_}
-use Prim.Native.Nat.{ℕ, zero, suc, _+_, _-_, _*_, _≤_, _<_, _^_}
+use Prim.Native.Nat.{ℕ, zero, suc, _+_, _*_, _≤_, _<_}
 use native.Mathlib.Nat.{not-suc-le-zero, le-of-suc-le-suc, suc-inj}
 use native.Mathlib.Decide.{decLe}
 use native.Mathlib.Omega.{arith}
@@ -10,9 +10,9 @@ use borrow.Author.Tests.{le-leb, lt-leb}
 use lib.Dec.{leb}
 use lib.ListN.{length, getD}
 use Rattle.zone.specs.Units.{mostOffset}
-use Rattle.zone.specs.Zone.{Change, Zone, changesOf, zoneOf, lastOffset, offsetAt}
+use Rattle.zone.specs.Zone.{Zone, changesOf, zoneOf, lastOffset, offsetAt}
 use Rattle.zone.specs.Answers.{Each, After, Spaced, spacingNs, Valid}
-use Rattle.zone.specs.Search.{Passed}
+use Rattle.zone.specs.Private.{Passed}
 
 -- a transition that has passed at t, and one that has not
 passed-by : (o a p t : ℕ) (ats os : List ℕ) → a ≤ t → lastOffset o (changesOf (a ∷ ats) (p ∷ os)) t ≡ lastOffset p (changesOf ats os) t
@@ -93,16 +93,20 @@ turn o (a ∷ ats) [] u v s h l = (u, steady o (a ∷ ats) [] u v h (λ t b. ref
 turn o (a ∷ ats) (p ∷ os) u v s h l = go (decLe a u) (decLe a v) (turn p ats os u v (s .1) h l)
   where
     go : Dec (a ≤ u) → Dec (a ≤ v) → (at : ℕ) × Turn (zoneOf p ats os) u v at → (at : ℕ) × Turn (zoneOf o (a ∷ ats) (p ∷ os)) u v at
-    go (yes early) d on =
-        (on .0, record {
-          until = λ t x y m. passed-by o a p t ats os (omega arith) ∙ on .1 .until t x y m ∙ sym (passed-by o a p u ats os early);
-          since = λ t x y m. passed-by o a p t ats os (omega arith) ∙ on .1 .since t x y m ∙ sym (passed-by o a p v ats os (omega arith));
-        })
+    go (yes early) d on = (
+      on .0,
+      record {
+        until = λ t x y m. passed-by o a p t ats os (omega arith) ∙ on .1 .until t x y m ∙ sym (passed-by o a p u ats os early);
+        since = λ t x y m. passed-by o a p t ats os (omega arith) ∙ on .1 .since t x y m ∙ sym (passed-by o a p v ats os (omega arith));
+      },
+    )
     go (no late) (yes within) on =
         let rest : (t : ℕ) → t ≤ v → lastOffset p (changesOf ats os) t ≡ p = λ t y. same-offset t p ats os (s .1) (beyond-next t a ats (s .0) (omega arith)) in
-        let none-yet : (t : ℕ) → t < a → lastOffset o (changesOf (a ∷ ats) (p ∷ os)) t ≡ o = λ t m. same-offset t o (a ∷ ats) (p ∷ os) s m in
-        (a, record {
-          until = λ t x y m. none-yet t m ∙ sym (none-yet u (omega arith));
-          since = λ t x y m. passed-by o a p t ats os m ∙ rest t y ∙ sym (rest v (omega arith)) ∙ sym (passed-by o a p v ats os within);
-        })
+        let none-yet : (t : ℕ) → t < a → lastOffset o (changesOf (a ∷ ats) (p ∷ os)) t ≡ o = λ t m. same-offset t o (a ∷ ats) (p ∷ os) s m in (
+          a,
+          record {
+            until = λ t x y m. none-yet t m ∙ sym (none-yet u (omega arith));
+            since = λ t x y m. passed-by o a p t ats os m ∙ rest t y ∙ sym (rest v (omega arith)) ∙ sym (passed-by o a p v ats os within);
+          },
+        )
     go (no late) (no beyond) on = (u, steady o (a ∷ ats) (p ∷ os) u v h (λ t b. same-offset t o (a ∷ ats) (p ∷ os) s (omega arith)))

@@ -1,18 +1,17 @@
 -- The transitions that have passed, as the code finds them, and what it makes of them. Assumes nothing.
-use mathlib.Core.Path.{_≡_, refl, sym, ap, ap₂, _∙_}
+use mathlib.Core.Path.{_≡_, refl, sym, ap₂, _∙_}
 use mathlib.Core.List.{List, [], _∷_}
 use mathlib.Core.Logic.{⊎-elim}
 use Prim.Native.Nat.{ℕ, zero, suc, _+_, _-_, _*_, _≤_, _<_, _^_}
 use native.Mathlib.Nat.{not-suc-le-zero, le-of-suc-le-suc, eq-or-lt-of-le}
-use native.Mathlib.Numerals.{add-one}
 use native.Mathlib.Omega.{arith}
 use lib.ListN.{length, getD, List·getD-eq-default}
-use Rattle.zone.specs.Units.{mostOffset, mostNs, offsetNs}
+use Rattle.zone.specs.Units.{mostOffset, mostNs}
 use Rattle.zone.specs.Zone.{Zone, zoneOf, offsetAt, instantBy, resolve}
 use Rattle.zone.specs.Answers.{Each, Spaced, spacingNs, Valid}
-use Rattle.zone.specs.Search.{Passed, around}
+use Rattle.zone.specs.Private.{Passed, around}
 use Rattle.zone.specs.declared.Resolution.the-variants.{Clear}
-use Rattle.zone.proofs.Offsets.{offset-passed, Turn}
+use Rattle.zone.proofs.Offsets.{offset-passed}
 use Rattle.zone.proofs.Readings.{resolve-around, resolve-steady}
 
 -- within a list it does not matter what stands for what is past the end

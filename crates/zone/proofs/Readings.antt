@@ -3,15 +3,15 @@ use mathlib.Core.Path.{_≡_, refl, sym, ap, subst, _∙_}
 use mathlib.Core.Bool.{Bool, true, false}
 use mathlib.Core.List.{List}
 use mathlib.Core.Logic.{_⊎_, inl, inr, ⊎-elim}
-use Prim.Native.Nat.{ℕ, _+_, _-_, _*_, _≤_, _<_, max}
+use Prim.Native.Nat.{ℕ, _+_, _-_, _*_, _≤_, _<_}
 use native.Mathlib.Decide.{decLt, decLe}
 use native.Mathlib.Omega.{arith}
 use borrow.Author.Tests.{eqb-true, eqb-false, eq-eqb, ne-eqb, lt-ltb, le-ltb, le-leb, lt-leb}
 use lib.Dec.{eqb}
-use Rattle.zone.specs.Units.{secondNs, mostOffset, mostNs, offsetNs}
+use Rattle.zone.specs.Units.{mostOffset, mostNs}
 use Rattle.zone.specs.Zone.{Zone, zoneOf, offsetAt, Reads, instantBy, byBefore, byAfter, reads, resolved, resolve, Skips, Means}
-use Rattle.zone.specs.Answers.{Valid, spacingNs, taken}
-use Rattle.zone.specs.Search.{around}
+use Rattle.zone.specs.Answers.{Valid, taken}
+use Rattle.zone.specs.Private.{around}
 use Rattle.zone.specs.declared.Doubt.{Doubt}
 use Rattle.zone.specs.declared.Resolution.{Resolution}
 use Rattle.zone.specs.declared.Resolution.the-variants.{Clear, Fold, Gap}

@@ -1,7 +1,7 @@
 -- What a zone's slices must be, and its answers in document 01's numbers. Assumes nothing.
 use Prim.Native.Nat.{ℕ, _+_, _-_, _*_, _%_, _^_, _≤_, max}
 use mathlib.Core.Path.{_≡_}
-use mathlib.Core.Bool.{cond}
+use mathlib.Core.Bool.{Bool, true, false, cond, _&&_}
 use mathlib.Core.List.{List, [], _∷_, _++_}
 use mathlib.Core.Option.{Option, none, some}
 use lib.Dec.{leb}
@@ -62,6 +62,17 @@ pub record Valid (first : ℕ) (ats offsets : List ℕ) : Type 0 where
   pub offsets-in : Each 0 (2 * mostOffset) offsets
   pub ats-in : Each (firstDay * dayNs) ((lastDay + 1) * dayNs) ats
   pub spaced : Spaced ats
+
+-- the same as a test: the next instant may be `least`, or later
+abbrev pub validFrom : ℕ → List ℕ → List ℕ → Bool
+validFrom least [] [] = true
+validFrom least [] (o ∷ offsets) = false
+validFrom least (a ∷ ats) [] = false
+validFrom least (a ∷ ats) (o ∷ offsets) =
+    ((leb least a && leb a ((lastDay + 1) * dayNs)) && leb o (2 * mostOffset)) && validFrom (a + spacingNs) ats offsets
+
+abbrev pub valid : ℕ → List ℕ → List ℕ → Bool
+valid first ats offsets = leb first (2 * mostOffset) && validFrom (firstDay * dayNs) ats offsets
 
 -- ---- the instant taken for a reading: in a fold the earlier, which is by the offset before; in a gap the later
 

@@ -1,5 +1,5 @@
 pub mod Units
 pub mod Zone
 pub mod Answers
-pub mod Search
+pub mod Private
 pub mod Examples

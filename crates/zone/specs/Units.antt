@@ -23,8 +23,9 @@ mostNs = mostOffset * secondNs
 abbrev pub offsetNs : ℕ → ℕ
 offsetNs o = o * secondNs
 
--- Each number of a week before 1900-01-01 and after 2199-12-31 is an instant, less a day at either end for readings, and one more
--- for what readings convert to. A number outside counts as the nearest inside, as the Rust saturates at its library's bounds.
+-- Instants in use run from 1899-12-26 to 2200-01-08, readings in use from a day later to a day earlier: every date of the calendar, the
+-- midnight after it, and all that they convert to. What lies outside counts as the nearest inside, as the Rust saturates at the bounds
+-- of its library.
 abbrev pub firstInstant : ℕ
 firstInstant = (firstDay - 6) * dayNs
 

@@ -5,10 +5,7 @@ use mathlib.Core.Path.{_≡_}
 use mathlib.Core.Bool.{Bool, true, false, cond}
 use mathlib.Core.List.{List, [], _∷_}
 use lib.Dec.{leb, eqb}
-use lib.ListN.{length}
-use Rattle.zone.specs.Units.{secondNs, dayNs, mostOffset, mostNs, offsetNs, nearestInstant, readingDay}
-use Rattle.calendar.specs.Answers.{firstDay, lastDay}
-use Rattle.zone.specs.declared.Doubt.{Doubt}
+use Rattle.zone.specs.Units.{mostNs, offsetNs, nearestInstant, readingDay}
 use Rattle.zone.specs.declared.Resolution.{Resolution}
 use Rattle.zone.specs.declared.Resolution.the-variants.{Clear, Fold, Gap}
 

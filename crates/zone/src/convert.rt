@@ -3,10 +3,8 @@ ghost use mathlib.Core.Path.{_≡_};
 ghost use Prim.Native.Nat.{_*_, _≤_, min, max};
 ghost use Rattle.zone.specs.Units.{mostOffset, firstReading, lastReading, nearestReading, readingDay, readingTime, readingAt};
 ghost use Rattle.zone.specs.Zone.{zoneOf, readingOf, dateAt, instantBy, resolve};
-ghost use Rattle.zone.specs.Answers.{Valid, boundaryAt};
-ghost use Rattle.zone.specs.Answers.{taken as Answers·taken, uncertain as Answers·uncertain};
-ghost use Rattle.zone.specs.Search.{around as Search·around};
-use calendar::Day;
+ghost use Rattle.zone.specs.Answers.{Valid, boundaryAt, taken as Answers·taken, uncertain as Answers·uncertain};
+ghost use Rattle.zone.specs.Private.{around as Private·around};
 use crate::Boundary;
 use crate::DAY_NS;
 use crate::Doubt;
@@ -20,6 +18,7 @@ use crate::Uncertainty;
 use crate::search::offset_after;
 use crate::search::offset_at;
 use crate::search::passed;
+use calendar::Day;
 
 const MOST_NS: u64 = 57_600 * SECOND_NS;
 
@@ -85,7 +84,7 @@ fn instant_by(offset: u32, x: u64) -> u64
 
 // Around one transition: a is a reading by the offset before it, b by the one after.
 fn around(at: u64, a: u64, b: u64) -> Resolution
-    ensures { λ r. ⌜ r ≡ Search·around at a b ⌝ }
+    ensures { λ r. ⌜ r ≡ Private·around at a b ⌝ }
 {
     let doubt = Doubt {
         before: Instant(a),
@@ -149,7 +148,14 @@ fn uncertain(r: Resolution, published: Uncertainty) -> Uncertainty
 }
 
 // The boundary at a time of a date, with the uncertainty that is published for it.
-pub fn to_utc_at(first: u32, ats: &[u64], offsets: &[u32], d: Day, time: u64, published: Uncertainty) -> Boundary
+pub fn to_utc_at(
+    first: u32,
+    ats: &[u64],
+    offsets: &[u32],
+    d: Day,
+    time: u64,
+    published: Uncertainty,
+) -> Boundary
     requires { ⌜ Valid first (now ats) (now offsets) ⌝ }
     ensures { λ r. ⌜ r ≡ boundaryAt (zoneOf first (now (ats .entry)) (now (offsets .entry))) (d .0) time published ⌝ }
 {

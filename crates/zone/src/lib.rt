@@ -1,7 +1,8 @@
 // Instants and a venue's wall readings, after RFC 9636: the only crate that adds an offset or takes one away.
-mod search;
 mod convert;
 mod number;
+mod search;
+mod valid;
 mod wide;
 
 pub use convert::day_at;
@@ -16,11 +17,15 @@ pub use number::Timed;
 pub use number::instant_of;
 pub use number::number_of;
 pub use search::offset_at;
+pub use valid::is_valid;
 pub use wide::widest;
 
 pub(crate) const SECOND_NS: u64 = 1_000_000_000;
 
 pub(crate) const DAY_NS: u64 = 86_400 * SECOND_NS;
+
+// An offset is kept in seconds plus 57,600.
+pub(crate) const OFFSET_MOST: u32 = 115_200;
 
 // Instants in use: a number outside counts as the nearest inside.
 pub(crate) const FIRST_INSTANT: u64 = DAY_NS;

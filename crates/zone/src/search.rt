@@ -6,7 +6,7 @@ ghost use lib.ListN.{length, getD};
 ghost use Rattle.zone.specs.Units.{mostOffset};
 ghost use Rattle.zone.specs.Zone.{zoneOf, offsetAt};
 ghost use Rattle.zone.specs.Answers.{Valid};
-ghost use Rattle.zone.specs.Search.{Passed};
+ghost use Rattle.zone.specs.Private.{Passed};
 use crate::Instant;
 
 // How many of the transitions stand at or before an instant, by bisection.

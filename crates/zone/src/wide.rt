@@ -1,7 +1,7 @@
 // The wider of two uncertainties.
 ghost use mathlib.Core.Path.{_≡_};
 ghost use Rattle.zone.specs.Answers.{width, widestOf};
-ghost use Rattle.zone.specs.Search.{bound};
+ghost use Rattle.zone.specs.Private.{bound};
 use crate::Uncertainty;
 
 // How wide an uncertainty is.
@@ -31,13 +31,7 @@ pub fn widest(left: Uncertainty, right: Uncertainty) -> Uncertainty
         Width::Unbounded => left,
         Width::Nanos(a) => match bound_nanos(right) {
             Width::Unbounded => right,
-            Width::Nanos(b) => {
-                if b <= a {
-                    left
-                } else {
-                    right
-                }
-            }
+            Width::Nanos(b) => { if b <= a { left } else { right } }
         },
     }
 }

@@ -1,31 +1,25 @@
 use borrow.Author.Tests.{lt-ltb, le-ltb, le-leb, lt-leb}
 use Rattle.zone.proofs.convert.around.Statement.{statement}
 use Rattle.zone.proofs.convert.around.Tie as tie
-use Rattle.zone.proofs.convert.around.Reads as reads
-use Rattle.zone.proofs.convert.around.Lts as lts
 
--- src/convert.rt:100:13
 returns : tie.Need-returns
 returns c =
     let at-if2 = c in
     let at-if1 = at-if2 .before in
     simp (lt-ltb _ _ (at-if1 .if1 .taken), le-leb _ _ (at-if2 .if2 .taken))
 
--- src/convert.rt:102:9
 returns-2 : tie.Need-returns-2
 returns-2 c =
     let at-if2 = c in
     let at-if1 = at-if2 .before in
     simp (lt-ltb _ _ (at-if1 .if1 .taken), lt-leb _ _ (at-if2 .if2 .left))
 
--- src/convert.rt:105:9
 returns-3 : tie.Need-returns-3
 returns-3 c =
     let at-if3 = c in
     let at-if1 = at-if3 .before in
     simp (le-ltb _ _ (at-if1 .if1 .left), le-leb _ _ (at-if3 .if3 .taken))
 
--- src/convert.rt:91:1
 returns-4 : tie.Need-returns-4
 returns-4 c =
     let at-if3 = c in

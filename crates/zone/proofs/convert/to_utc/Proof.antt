@@ -1,49 +1,22 @@
-use Prim.Native.Nat.{ℕ, suc, _+_, _*_, _≤_, _<_, _^_}
+use Prim.Native.Nat.{ℕ, suc, _+_, _<_, _^_}
 use Rattle.zone.proofs.Passing.{getD-within, offset-in, none-near, one-near}
 use Rattle.zone.specs.declared.Resolution.the-variants.{Clear}
-use Rattle.zone.specs.Search.{around}
+use Rattle.zone.specs.Private.{around}
 use Rattle.zone.specs.Zone.{zoneOf, instantBy, resolve}
-use Rattle.zone.specs.Units.{mostNs, mostOffset}
+use Rattle.zone.specs.Units.{mostNs}
 use lib.ListN.{getD, List·getD-eq-default}
 use native.Mathlib.Omega.{arith}
-use Prim.Native.Nat.{ℕ, _+_, _*_, _≤_, _<_, _^_}
-use mathlib.Core.List.{_∷_}
-use mathlib.Core.Path.{_≡_, sym, ap, ap₂, _∙_}
+use mathlib.Core.Path.{sym, ap, ap₂, _∙_}
 use borrow.Author.Needs.{needs}
 use Rattle.zone.proofs.convert.to_utc.Statement.{statement}
 use Rattle.zone.proofs.convert.to_utc.Tie as tie
-use Rattle.zone.proofs.convert.to_utc.Reads as reads
-use Rattle.zone.proofs.convert.to_utc.Lts as lts
-use Rattle.zone.proofs.convert.around.Reads as around-reads
-use Rattle.zone.proofs.convert.instant_by.Reads as instant-by-reads
-use Rattle.zone.proofs.convert.nearest.Reads as nearest-reads
-use Rattle.zone.proofs.search.offset_after.Reads as offset-after-reads
-use Rattle.zone.proofs.search.passed.Reads as passed-reads
 
--- src/convert.rt:116:9
-nearest-requires : tie.Need-nearest-requires
-nearest-requires c κs = search needs
-
--- src/convert.rt:117:29
-sub-passed : tie.Need-sub-passed
-sub-passed c = search needs
-
--- src/convert.rt:117:9
-passed-requires : tie.Need-passed-requires
-passed-requires c κs = search needs
-
--- src/convert.rt:118:24
-offset-after-requires : tie.Need-offset-after-requires
-offset-after-requires c κs = search needs
-
--- src/convert.rt:118:9
 instant-by-requires : tie.Need-instant-by-requires
 instant-by-requires c κs =
     let at-passed = c .before in
     let at-start = at-passed .before .before .before .before in
     omega (arith, (offset-in ((at-start .args .first)) ((at-start .args .ats) .now) ((at-start .args .offsets) .now) ((at-passed .passed .result)) (at-start .pre) ((at-passed .passed .ensures) .most)))
 
--- src/convert.rt:120:9
 returns : tie.Need-returns
 returns c =
     let at-if1 = c in
@@ -58,19 +31,6 @@ returns c =
     ∙ sym (none-near ((at-start .args .first)) ((at-start .args .ats) .now) ((at-start .args .offsets) .now) (at-start .pre) ((at-nearest .nearest .result)) ((at-passed .passed .result)) (omega arith) (at-passed .passed .ensures) late)
     ∙ ap (resolve ((zoneOf ((at-start .args .first)) ((at-start .args .ats) .now) ((at-start .args .offsets) .now)))) (at-nearest .nearest .ensures)
 
--- src/convert.rt:122:14
-mul-at : tie.Need-mul-at
-mul-at c = search needs
-
--- src/convert.rt:122:14
-shared-slice-read-at : tie.Need-shared-slice-read-at
-shared-slice-read-at c = search needs
-
--- src/convert.rt:123:8
-add-if2 : tie.Need-add-if2
-add-if2 c = search needs
-
--- src/convert.rt:124:9
 returns-2 : tie.Need-returns-2
 returns-2 c =
     let at-if2 = c in
@@ -85,15 +45,6 @@ returns-2 c =
     ∙ sym (none-near ((at-start .args .first)) ((at-start .args .ats) .now) ((at-start .args .offsets) .now) (at-start .pre) ((at-nearest .nearest .result)) ((at-passed .passed .result)) (omega arith) (at-passed .passed .ensures) late)
     ∙ ap (resolve ((zoneOf ((at-start .args .first)) ((at-start .args .ats) .now) ((at-start .args .offsets) .now)))) (at-nearest .nearest .ensures)
 
--- src/convert.rt:126:30
-mul-instant-by : tie.Need-mul-instant-by
-mul-instant-by c = search needs
-
--- src/convert.rt:126:30
-shared-slice-read-instant-by : tie.Need-shared-slice-read-instant-by
-shared-slice-read-instant-by c = search needs
-
--- src/convert.rt:126:19
 instant-by-requires-2 : tie.Need-instant-by-requires-2
 instant-by-requires-2 c κs =
     let at-if1 = c .before .before .before in
@@ -101,11 +52,6 @@ instant-by-requires-2 c κs =
     let at-start = at-passed .before .before .before .before in
     omega (arith, offset-in (at-start .args .first) ((at-start .args .ats) .now) ((at-start .args .offsets) .now) (suc (at-passed .passed .result)) (at-start .pre) (at-if1 .if1 .left))
 
--- src/convert.rt:126:5
-around-requires : tie.Need-around-requires
-around-requires c κs = search needs
-
--- src/convert.rt:112:1
 returns-3 : tie.Need-returns-3
 returns-3 c =
     let at-around = c in
@@ -126,18 +72,18 @@ pub to-utc-spec : {M : Type 1} → statement M
 to-utc-spec =
     tie.close
     (tie.spec
-    nearest-requires
-    sub-passed
-    passed-requires
-    offset-after-requires
+    (λ c κs. search needs)
+    (λ c. search needs)
+    (λ c κs. search needs)
+    (λ c κs. search needs)
     instant-by-requires
     returns
-    mul-at
-    shared-slice-read-at
-    add-if2
+    (λ c. search needs)
+    (λ c. search needs)
+    (λ c. search needs)
     returns-2
-    mul-instant-by
-    shared-slice-read-instant-by
+    (λ c. search needs)
+    (λ c. search needs)
     instant-by-requires-2
-    around-requires
+    (λ c κs. search needs)
     returns-3)

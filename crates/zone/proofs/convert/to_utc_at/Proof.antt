@@ -3,30 +3,7 @@ use Rattle.zone.specs.Zone.{zoneOf}
 use borrow.Author.Needs.{needs}
 use Rattle.zone.proofs.convert.to_utc_at.Statement.{statement}
 use Rattle.zone.proofs.convert.to_utc_at.Tie as tie
-use Rattle.zone.proofs.convert.to_utc_at.Reads as reads
-use Rattle.zone.proofs.convert.to_utc_at.Lts as lts
-use Rattle.zone.proofs.convert.reading_at.Reads as reading-at-reads
-use Rattle.zone.proofs.convert.taken.Reads as taken-reads
-use Rattle.zone.proofs.convert.to_utc.Reads as to-utc-reads
-use Rattle.zone.proofs.convert.uncertain.Reads as uncertain-reads
 
--- src/convert.rt:160:41
-reading-at-requires : tie.Need-reading-at-requires
-reading-at-requires c κs = search needs
-
--- src/convert.rt:160:9
-to-utc-requires : tie.Need-to-utc-requires
-to-utc-requires c κs = search needs
-
--- src/convert.rt:161:9
-taken-requires : tie.Need-taken-requires
-taken-requires c κs = search needs
-
--- src/convert.rt:162:9
-uncertain-requires : tie.Need-uncertain-requires
-uncertain-requires c κs = search needs
-
--- src/convert.rt:156:1
 returns : tie.Need-returns
 returns c =
     let at-uncertain = c in
@@ -40,4 +17,4 @@ returns c =
 pub to-utc-at-spec : {M : Type 1} → statement M
 to-utc-at-spec =
     tie.close
-    (tie.spec reading-at-requires to-utc-requires taken-requires uncertain-requires returns)
+    (tie.spec (λ c κs. search needs) (λ c κs. search needs) (λ c κs. search needs) (λ c κs. search needs) returns)

@@ -6,26 +6,7 @@ use mathlib.Core.List.{_∷_}
 use borrow.Author.Needs.{needs}
 use Rattle.zone.proofs.search.offset_after.Statement.{statement}
 use Rattle.zone.proofs.search.offset_after.Tie as tie
-use Rattle.zone.proofs.search.offset_after.Reads as reads
-use Rattle.zone.proofs.search.offset_after.Lts as lts
 
--- src/search.rt:38:17
-sub-result : tie.Need-sub-result
-sub-result c = search needs
-
--- src/search.rt:38:9
-mul-result : tie.Need-mul-result
-mul-result c = search needs
-
--- src/search.rt:38:9
-shared-slice-read-result : tie.Need-shared-slice-read-result
-shared-slice-read-result c = search needs
-
--- src/search.rt:31:1
-returns : tie.Need-returns
-returns c = search needs
-
--- src/search.rt:31:1
 returns-2 : tie.Need-returns-2
 returns-2 c =
     let at-start = c .before .before in
@@ -35,4 +16,4 @@ returns-2 c =
 
 pub offset-after-spec : {M : Type 1} → statement M
 offset-after-spec =
-    tie.close (tie.spec sub-result mul-result shared-slice-read-result returns returns-2)
+    tie.close (tie.spec (λ c. search needs) (λ c. search needs) (λ c. search needs) (λ c. search needs) returns-2)

@@ -1,24 +1,11 @@
 use Rattle.zone.proofs.Passing.{offset-in}
 use Rattle.zone.proofs.Offsets.{offset-passed}
 use native.Mathlib.Omega.{arith}
-use mathlib.Core.Path.{_≡_, sym, _∙_}
+use mathlib.Core.Path.{sym, _∙_}
 use borrow.Author.Needs.{needs}
 use Rattle.zone.proofs.search.offset_at.Statement.{statement}
 use Rattle.zone.proofs.search.offset_at.Tie as tie
-use Rattle.zone.proofs.search.offset_at.Reads as reads
-use Rattle.zone.proofs.search.offset_at.Lts as lts
-use Rattle.zone.proofs.search.offset_after.Reads as offset-after-reads
-use Rattle.zone.proofs.search.passed.Reads as passed-reads
 
--- src/search.rt:45:9
-passed-requires : tie.Need-passed-requires
-passed-requires c κs = search needs
-
--- src/search.rt:46:5
-offset-after-requires : tie.Need-offset-after-requires
-offset-after-requires c κs = search needs
-
--- src/search.rt:41:1
 returns : tie.Need-returns
 returns c =
     let at-offset-after = c in
@@ -31,4 +18,4 @@ returns c =
     ((at-offset-after .offset-after .ensures) ∙ sym is, omega (arith, offset-in (at-start .args .first) ats os k (at-start .pre) ((at-passed .passed .ensures) .most)))
 
 pub offset-at-spec : {M : Type 1} → statement M
-offset-at-spec = tie.close (tie.spec passed-requires offset-after-requires returns)
+offset-at-spec = tie.close (tie.spec (λ c κs. search needs) (λ c κs. search needs) returns)

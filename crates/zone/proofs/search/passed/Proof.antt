@@ -8,8 +8,6 @@ use mathlib.Core.Path.{_≡_}
 use mathlib.Core.List.{_∷_}
 use Rattle.zone.proofs.search.passed.Statement.{statement}
 use Rattle.zone.proofs.search.passed.Tie as tie
-use Rattle.zone.proofs.search.passed.Reads as reads
-use Rattle.zone.proofs.search.passed.Lts as lts
 
 abbrev Inv-loop : tie.InvT-loop
 Inv-loop ats t low₀ high₀ low high =
@@ -18,38 +16,12 @@ Inv-loop ats t low₀ high₀ low high =
 abbrev μ-loop : tie.MeasureT-loop
 μ-loop ats t low₀ high₀ low high = high - low
 
--- src/search.rt:18:5
 loop-holds : tie.Need-loop-holds Inv-loop μ-loop
 loop-holds c =
     let at-start = c in
     let z = List·getD-eq-default ((at-start .args .ats) .now) (2 ^ 64) (le-refl (length ((at-start .args .ats) .now))) in
     (omega arith, omega arith, omega arith, rw z (omega arith))
 
--- src/search.rt:19:29
-sub-middle : tie.Need-sub-middle Inv-loop μ-loop
-sub-middle c = omega arith
-
--- src/search.rt:19:22
-add-middle : tie.Need-add-middle Inv-loop μ-loop
-add-middle c = omega arith
-
--- src/search.rt:20:12
-mul-if1 : tie.Need-mul-if1 Inv-loop μ-loop
-mul-if1 c = omega arith
-
--- src/search.rt:20:12
-shared-slice-read-if1 : tie.Need-shared-slice-read-if1 Inv-loop μ-loop
-shared-slice-read-if1 c = omega arith
-
--- src/search.rt:21:19
-add-low : tie.Need-add-low Inv-loop μ-loop
-add-low c = omega arith
-
--- src/search.rt:18:5
-loop-less : tie.Need-loop-less Inv-loop μ-loop
-loop-less c = omega arith
-
--- src/search.rt:18:5
 loop-again : tie.Need-loop-again Inv-loop μ-loop
 loop-again c =
     let at-if1 = c in
@@ -57,11 +29,6 @@ loop-again c =
     let m = (at-loop .loop .low) + ((at-loop .loop .high) - (at-loop .loop .low)) / 2 in
     (omega arith, omega arith, rw (add-one m) (at-if1 .if1 .taken), (at-loop .loop .inv .3))
 
--- src/search.rt:18:5
-loop-less-2 : tie.Need-loop-less-2 Inv-loop μ-loop
-loop-less-2 c = omega arith
-
--- src/search.rt:18:5
 loop-again-2 : tie.Need-loop-again-2 Inv-loop μ-loop
 loop-again-2 c =
     let at-if1 = c in
@@ -70,7 +37,6 @@ loop-again-2 c =
     let m = (at-loop .loop .low) + ((at-loop .loop .high) - (at-loop .loop .low)) / 2 in
     (omega arith, omega arith, (at-loop .loop .inv .2), rw (getD-within ((at-start .args .ats) .now) m (2 ^ 64) 0 (omega arith)) (at-if1 .if1 .left))
 
--- src/search.rt:13:1
 returns : tie.Need-returns Inv-loop μ-loop
 returns c =
     let at-loop = c .before in
@@ -84,13 +50,13 @@ passed-spec =
     Inv-loop
     μ-loop
     loop-holds
-    sub-middle
-    add-middle
-    mul-if1
-    shared-slice-read-if1
-    add-low
-    loop-less
+    (λ c. omega arith)
+    (λ c. omega arith)
+    (λ c. omega arith)
+    (λ c. omega arith)
+    (λ c. omega arith)
+    (λ c. omega arith)
     loop-again
-    loop-less-2
+    (λ c. omega arith)
     loop-again-2
     returns)

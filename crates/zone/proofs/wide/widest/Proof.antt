@@ -1,38 +1,9 @@
 use Rattle.zone.proofs.Boundaries.{widest-by, left-unbounded}
 use borrow.Author.Tests.{le-leb, lt-leb}
-use mathlib.Core.Path.{_∙_}
 use borrow.Author.Needs.{needs}
 use Rattle.zone.proofs.wide.widest.Statement.{statement}
 use Rattle.zone.proofs.wide.widest.Tie as tie
-use Rattle.zone.proofs.wide.widest.Reads as reads
-use Rattle.zone.proofs.wide.widest.Lts as lts
-use Rattle.zone.proofs.wide.bound_nanos.Reads as bound-nanos-reads
 
--- src/wide.rt:30:11
-bound-nanos-requires : tie.Need-bound-nanos-requires
-bound-nanos-requires c κs = search needs
-
--- src/wide.rt:31:29
-enum-told : tie.Need-enum-told
-enum-told c = search needs
-
--- src/wide.rt:32:22
-enum-known-a : tie.Need-enum-known-a
-enum-known-a c = search needs
-
--- src/wide.rt:32:34
-bound-nanos-requires-2 : tie.Need-bound-nanos-requires-2
-bound-nanos-requires-2 c κs = search needs
-
--- src/wide.rt:33:33
-enum-told-2 : tie.Need-enum-told-2
-enum-told-2 c = search needs
-
--- src/wide.rt:34:26
-enum-known-b : tie.Need-enum-known-b
-enum-known-b c = search needs
-
--- src/wide.rt:27:1
 returns : tie.Need-returns
 returns c =
     let at-enum-told = c in
@@ -40,7 +11,6 @@ returns c =
     let at-start = at-bound-nanos .before in
     left-unbounded (at-start .args .left) (at-start .args .right) _ _ (at-bound-nanos .bound-nanos .ensures) (at-enum-told .enum-told .given .1)
 
--- src/wide.rt:27:1
 returns-2 : tie.Need-returns-2
 returns-2 c =
     let at-enum-told2 = c in
@@ -50,7 +20,6 @@ returns-2 c =
     let at-start = at-bound-nanos .before in
     widest-by (at-start .args .left) (at-start .args .right) _ _ _ _ (at-bound-nanos .bound-nanos .ensures) (at-a .a .given .1) (at-bound-nanos2 .bound-nanos2 .ensures) (at-enum-told2 .enum-told2 .given .1)
 
--- src/wide.rt:27:1
 returns-3 : tie.Need-returns-3
 returns-3 c =
     let at-if1 = c in
@@ -62,7 +31,6 @@ returns-3 c =
     let e = widest-by (at-start .args .left) (at-start .args .right) _ _ _ _ (at-bound-nanos .bound-nanos .ensures) (at-a .a .given .1) (at-bound-nanos2 .bound-nanos2 .ensures) (at-b .b .given .1) in
     simp (le-leb _ _ (at-if1 .if1 .taken)) at e
 
--- src/wide.rt:27:1
 returns-4 : tie.Need-returns-4
 returns-4 c =
     let at-if1 = c in
@@ -78,12 +46,12 @@ pub widest-spec : {M : Type 1} → statement M
 widest-spec =
     tie.close
     (tie.spec
-    bound-nanos-requires
-    enum-told
-    enum-known-a
-    bound-nanos-requires-2
-    enum-told-2
-    enum-known-b
+    (λ c κs. search needs)
+    (λ c. search needs)
+    (λ c. search needs)
+    (λ c κs. search needs)
+    (λ c. search needs)
+    (λ c. search needs)
     returns
     returns-2
     returns-3

@@ -1,0 +1,35 @@
+// Whether slices hold transitions that a zone can have.
+ghost use mathlib.Core.Path.{_≡_};
+ghost use Rattle.zone.specs.Answers.{valid};
+use crate::DAY_NS;
+use crate::OFFSET_MOST;
+use crate::SECOND_NS;
+
+const FIRST_TRANSITION: u64 = 7 * DAY_NS;
+
+const LAST_TRANSITION: u64 = 109_580 * DAY_NS;
+
+const SPACING_NS: u64 = 172_800 * SECOND_NS;
+
+pub fn is_valid(first: u32, ats: &[u64], offsets: &[u32]) -> bool
+    ensures { λ r. ⌜ r ≡ valid first (now (ats .entry)) (now (offsets .entry)) ⌝ }
+{
+    if OFFSET_MOST < first {
+        return false;
+    }
+    if ats.len() != offsets.len() {
+        return false;
+    }
+    let mut i: usize = 0;
+    let mut least = FIRST_TRANSITION;
+    while i < ats.len() {
+        let at = ats[i];
+        let offset = offsets[i];
+        if !((least <= at) & (at <= LAST_TRANSITION) & (offset <= OFFSET_MOST)) {
+            return false;
+        }
+        least = at + SPACING_NS;
+        i += 1;
+    }
+    true
+}
