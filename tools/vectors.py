@@ -19,17 +19,34 @@ EPOCH = datetime.datetime(1970, 1, 1)
 START = int((datetime.datetime(1900, 1, 1) - EPOCH).total_seconds())
 END = int((datetime.datetime(2200, 1, 1) - EPOCH).total_seconds())
 
-# kinds of the list's records: a byte, then as many signed little-endian numbers of 8 bytes as said here
-MONTH, DATE, NO_NUMBER, NO_DATE, ZONE, CHANGE, READING, CLEAR, FOLD, GAP = range(1, 11)
+# Records are a kind, a byte, and signed little-endian numbers of 8 bytes. They stand in blocks of 65,536 bytes, none across an edge,
+# with zeros up to the edge. A zone whose cases go past an edge is said again in the next block, as SAME.
+MONTH, DATE, NO_NUMBER, NO_DATE, ZONE, CHANGE, READING, CLEAR, FOLD, GAP, SAME = range(1, 12)
+BLOCK = 65_536
 out = bytearray()
 counts = {}
 
 
+def record(kind, *numbers):
+    return struct.pack(f"<B{len(numbers)}q", kind, *numbers)
+
+
+def left():
+    return -len(out) % BLOCK or BLOCK
+
+
 def put(kind, *numbers):
+    """Adds a record. A block begins with what is to be said again."""
     counts[kind] = counts.get(kind, 0) + 1
-    out.append(kind)
-    for n in numbers:
-        out.extend(struct.pack("<q", n))
+    new = record(kind, *numbers)
+    if left() < len(new):
+        out.extend(bytes(left()))
+    if left() == BLOCK:
+        out.extend(again)
+    out.extend(new)
+
+
+again = b""
 
 
 # ---- dates
@@ -137,6 +154,7 @@ def probes(first, changes):
 
 
 def readings(zones):
+    global again
     asked, told = [], []
     for zone, first, changes in zones:
         asked.append(f"Z {first}")
@@ -147,9 +165,13 @@ def readings(zones):
     answers = iter(subprocess.run(["java", "tools/Readings.java"], input="\n".join(asked) + "\n", capture_output=True, text=True, check=True).stdout.split("\n"))
     for zone, first, changes, instants, walls in told:
         assert len(changes) <= 640 and all(b[0] - a[0] >= 172_800 for a, b in zip(changes, changes[1:])), (zone, len(changes))
+        known = b"".join(record(CHANGE, at, o) for at, o in changes)
+        again = b""
+        if left() < 2 * len(known) + 9:
+            out.extend(bytes(left()))
         put(ZONE, first)
-        for at, o in changes:
-            put(CHANGE, at, o)
+        out.extend(known)
+        again = record(SAME, first) + known
         for t in instants:
             word, x = next(answers).split()
             assert word == "R" and int(x) == t + offset_at(zone, t // NS) * NS, (zone, t, x)
@@ -180,7 +202,7 @@ def main():
     readings(zones)
     with open("crates/vectors/data/list", "wb") as f:
         f.write(out)
-    names = "MONTH DATE NO_NUMBER NO_DATE ZONE CHANGE READING CLEAR FOLD GAP".split()
+    names = "MONTH DATE NO_NUMBER NO_DATE ZONE CHANGE READING CLEAR FOLD GAP SAME".split()
     print(len(out), "bytes;", ", ".join(f"{names[k - 1]} {n}" for k, n in sorted(counts.items())))
 
 

@@ -1,0 +1,145 @@
+// Dates, day numbers and weekdays.
+ghost use Prim.Native.Nat.{_<_};
+ghost use lib.ListN.{length};
+use crate::list;
+use crate::list::met;
+use calendar::Dated;
+use calendar::Day;
+use calendar::Found;
+use calendar::Numbered;
+use wire::Placed;
+
+// 2^63, and 2^63 - 2^31.
+const ZERO: u64 = 0x8000_0000_0000_0000;
+
+const LOW: u64 = ZERO - 0x8000_0000;
+
+// A number of the list as an i32, and as a year, month or day; 0 for one that is none.
+fn small(p: Placed) -> i32 {
+    let n = p.0;
+    if n < LOW {
+        return 0;
+    }
+    if 0xffff_ffff < n - LOW {
+        return 0;
+    }
+    wire::unplace4(wire::Placed4((n - LOW) as u32))
+}
+
+fn count(p: Placed) -> u32 {
+    let n = p.0;
+    if n < ZERO {
+        return 0;
+    }
+    if 0xffff_ffff < n - ZERO {
+        return 0;
+    }
+    (n - ZERO) as u32
+}
+
+fn is_number(r: Numbered, n: i32) -> bool {
+    match r {
+        Numbered::Number(m) => m == n,
+        Numbered::NoNumber => false,
+    }
+}
+
+fn has_no_number(r: Numbered) -> bool {
+    match r {
+        Numbered::Number(_) => false,
+        Numbered::NoNumber => true,
+    }
+}
+
+fn is_date(r: Dated, year: u32, month: u32, day: u32) -> bool {
+    match r {
+        Dated::Is(x) => (x.year == year) & (x.month == month) & (x.day == day),
+        Dated::NoDate => false,
+    }
+}
+
+fn has_no_date(r: Dated) -> bool {
+    match r {
+        Dated::Is(_) => false,
+        Dated::NoDate => true,
+    }
+}
+
+// The weekday of a day number and the number of its Day again; 7 where there is no such Day.
+fn weekday_of(n: i32) -> u32 {
+    match calendar::day_of(n) {
+        Found::On(d) => {
+            if is_number(calendar::number_of(d), n) {
+                calendar::weekday(d)
+            } else {
+                7
+            }
+        }
+        Found::NoDay => 7,
+    }
+}
+
+// Whether a date has a day number and a weekday, and the number that date.
+fn date_is(year: u32, month: u32, day: u32, n: i32, weekday: u32) -> bool {
+    let there = is_number(calendar::day_number(year, month, day), n);
+    let back = is_date(calendar::date_of(n), year, month, day);
+    there & back & (weekday_of(n) == weekday)
+}
+
+// Every day of a month, and that the day after its last is none of it.
+fn month(year: u32, month: u32, first: Placed, days: u32, weekday: u32, counts: &mut [u64]) {
+    let mut k: u32 = 0;
+    while k < days {
+        let n = small(Placed(std::num::wrapping_add_u64(first.0, k as u64)));
+        met(
+            counts,
+            list::MONTH,
+            date_is(year, month, k + 1, n, (weekday % 7 + k % 7) % 7),
+        );
+        k += 1;
+    }
+    if days < 32 {
+        met(
+            counts,
+            list::NO_DATE,
+            has_no_number(calendar::day_number(year, month, days + 1)),
+        );
+    }
+}
+
+// Compares one record about dates.
+pub fn compare(list: &[u8], at: usize, kind: u8, counts: &mut [u64])
+    requires { ⌜ at < length (now list) ⌝ }
+{
+    let a = list::number(list, at, 0);
+    let b = list::number(list, at, 1);
+    let c = list::number(list, at, 2);
+    let d = list::number(list, at, 3);
+    let e = list::number(list, at, 4);
+    match kind {
+        0 => {}
+        1 => {
+            month(count(a), count(b), c, count(d), count(e), counts);
+        }
+        2 => {
+            met(
+                counts,
+                kind,
+                date_is(count(a), count(b), count(c), small(d), count(e)),
+            );
+        }
+        3 => {
+            met(counts, kind, has_no_date(calendar::date_of(small(a))));
+        }
+        4 => {
+            met(
+                counts,
+                kind,
+                has_no_number(calendar::day_number(count(a), count(b), count(c))),
+            );
+        }
+        _ => {
+            met(counts, list::STRANGE, true);
+        }
+    }
+}
