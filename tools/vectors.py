@@ -1,5 +1,5 @@
 #!/usr/bin/env python3
-"""vectors.py: makes crates/vectors/data/list, what the program `vectors` compares the calendar and the zone crates with.
+"""vectors.py: makes the lists that the programs vectors_calendar and vectors_zone compare the calendar and the zone crates with.
 
 Nothing here is ours to judge by: dates are Python's datetime and calendar, readings are asked of Python's zoneinfo (at whole
 seconds) and of java.time's ZoneRules (Readings.java, to the nanosecond), and a case is kept only if the two agree; if they do not,
@@ -185,8 +185,16 @@ def readings(zones):
     assert next(answers) == "", "an answer too many"
 
 
+def keep(name):
+    with open(f"crates/{name}/data/list", "wb") as f:
+        f.write(out)
+    print(name, len(out), "bytes")
+    out.clear()
+
+
 def main():
     dates()
+    keep("vectors_calendar")
     zones = []
     assert changes_of(zoneinfo.ZoneInfo("Pacific/Honolulu")) == HONOLULU, changes_of(zoneinfo.ZoneInfo("Pacific/Honolulu"))
     zones.append((tzif(*HONOLULU), *HONOLULU))
@@ -200,10 +208,9 @@ def main():
         first, changes = invented(seed)
         zones.append((tzif(first, changes), first, changes))
     readings(zones)
-    with open("crates/vectors/data/list", "wb") as f:
-        f.write(out)
+    keep("vectors_zone")
     names = "MONTH DATE NO_NUMBER NO_DATE ZONE CHANGE READING CLEAR FOLD GAP SAME".split()
-    print(len(out), "bytes;", ", ".join(f"{names[k - 1]} {n}" for k, n in sorted(counts.items())))
+    print(", ".join(f"{names[k - 1]} {n}" for k, n in sorted(counts.items())))
 
 
 main()
