@@ -29,6 +29,10 @@ clear-by s t e = cc
 doubt-by : (a a′ b b′ : ℕ) → a ≡ a′ → b ≡ b′ → _≡_ {A = Doubt} (record { before = record { 0 = a }; after = record { 0 = b } }) (record { before = record { 0 = a′ }; after = record { 0 = b′ } })
 doubt-by a a′ b b′ p q = cc
 
+-- a shift keeps order
+pub shift-order : (o x y : ℕ) → x ≤ y → instantBy o x ≤ instantBy o y
+shift-order o x y h = omega arith
+
 -- two instants beside a change, by whether they read the reading they were made from
 decided : (r s e : Bool) (at a b : ℕ) → eqb a b ≡ e → (a < at → r ≡ true) → (at ≤ a → r ≡ true → a ≡ b) → (at ≤ b → s ≡ true) → (b < at → s ≡ true → a ≡ b)
     → resolved r s e a b ≡ around at a b
