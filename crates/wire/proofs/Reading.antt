@@ -1,16 +1,20 @@
 -- Laws of fields that are read, over the width. Assumes nothing.
-use mathlib.Core.Path.{_≡_, refl}
+use mathlib.Core.Path.{_≡_, refl, _∙_}
 use mathlib.Core.List.{List}
-use Prim.Native.Nat.{ℕ, zero, suc, _+_, _*_, _^_, _<_}
+use Prim.Native.Nat.{ℕ, zero, suc, _+_, _*_, _^_, _≤_, _<_}
 use native.Mathlib.Nat.{add-zero, zero-add, suc-add, pow-suc}
 use native.Mathlib.Omega.{arith}
-use lib.ListN.{getD}
+use lib.ListN.{length, getD, List·getD-eq-default}
 use Rattle.wire.specs.Fields.{field}
 
 -- one byte
 pub field-one : (s : List ℕ) (at : ℕ) → field 1 s at ≡ getD s at 0
 unfolding field
 field-one s at = omega arith
+
+-- a byte past the end says 0
+pub field-past : (s : List ℕ) (at : ℕ) → length s ≤ at → field 1 s at ≡ 0
+field-past s at h = field-one s at ∙ List·getD-eq-default s 0 h
 
 -- a field is its first m bytes and then the others
 pub field-split : (m n : ℕ) (s : List ℕ) (at : ℕ) → field (m + n) s at ≡ field m s at + 256 ^ m * field n s (at + m)

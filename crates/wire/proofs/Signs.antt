@@ -99,6 +99,22 @@ module _ (w : Width) where
       go true e = let l = ltb-true x (half w) e in simp e (record { sfits = omega arith })
       go false e = let l = ltb-false x (half w) e in simp e (record { sfits = omega (arith, pow-bits w) })
 
+  -- a sum of integers is a sum of placed numbers
+  pub meant-sum : (x k : ℕ) → meant w x +ℤ pos k ≡ meant w (x + k)
+  unfolding meant
+  meant-sum x k = go (ltb x (half w)) refl
+    where
+      go : (b : Bool) → ltb x (half w) ≡ b → subℕ x (half w) +ℤ pos k ≡ subℕ (x + k) (half w)
+      go true e =
+          let l = ltb-true x (half w) e in
+          let a : suc (half w - suc x) + x ≡ half w = omega arith in
+          let c : k + x ≡ x + k = omega arith in
+          simp e (sym (shifted x k (suc (half w - suc x))) ∙ ap₂ subℕ c a)
+      go false e =
+          let l = ltb-false x (half w) e in
+          let z : x - half w + k ≡ x + k - half w = omega arith in
+          simp (e, le-ltb (x + k) (half w) (omega arith), z)
+
   -- ---- order is kept: the tests on placed numbers are the tests on the integers that they mean
 
   pub order-lt : (x y : ℕ) → ltZ (meant w x) (meant w y) ≡ ltb x y

@@ -11,10 +11,14 @@ use mir.Val.{bits, hbits}
 abbrev pub half : Width → ℕ
 half w = 2 ^ hbits w
 
+-- an integer counted from an origin, which is e there
+abbrev pub since : ℕ → ℤ → ℕ
+since e (pos n) = n + e
+since e (negsuc n) = e - suc n
+
 -- an integer of the width, plus half of the range
 unfoldable pub placed : Width → ℤ → ℕ
-placed w (pos n) = n + half w
-placed w (negsuc n) = half w - suc n
+placed w z = since (half w) z
 
 -- the integer that a placed number means
 unfoldable pub meant : Width → ℕ → ℤ
@@ -23,6 +27,10 @@ meant w x = subℕ x (half w)
 -- the bits of a two's-complement field as the placed number, and a placed number as the bits
 abbrev pub turned : Width → ℕ → ℕ
 turned w x = (x + half w) % 2 ^ bits w
+
+-- the integer that the bits of a two's-complement field mean
+abbrev pub signed : Width → ℕ → ℤ
+signed w x = meant w (turned w x)
 
 -- n, if it lies from lo to hi
 unfoldable pub between : ℤ → ℤ → ℤ → Option ℤ

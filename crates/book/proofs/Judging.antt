@@ -1,0 +1,149 @@
+-- The tests of a record by its kind, and what each says of the record that stands there. Assumes nothing.
+use mathlib.Core.Path.{_≡_, refl, sym, ap, ap₂, _∙_}
+use mathlib.Core.Bool.{Bool, true, false, not, _&&_, _||_}
+use mathlib.Core.List.{List}
+use Prim.Native.Nat.{ℕ, zero, suc, _+_, _-_, _^_, _≤_, _<_}
+use native.Mathlib.Omega.{arith}
+use borrow.Author.Tests.{eq-eqb, ne-eqb}
+use lib.ListN.{length}
+use lib.Dec.{ltb, leb, eqb}
+use mir.Syntax.{w32, w64}
+use Rattle.wire.specs.Fields.{field}
+use Rattle.wire.specs.Signs.{half, meant, turned}
+use Rattle.wire.proofs.Signs.{order-lt, order-le}
+use Rattle.zone.specs.Units.{dayNs}
+use Rattle.records.specs.Layout.{number, integer, by, tag, nanoseconds, count, time, phase, step, dayFirst, dayLast, coverageStart, coverageEnd}
+use Rattle.records.specs.Records
+use Rattle.records.specs.Records.{rule, ruleAt, recordAt, publishedAt, pointsAt, timesAt}
+use Rattle.records.specs.Book.{kindAt, badUncertainty, late, lateStart, reversed, coversNothing}
+use Rattle.records.specs.Frame.{Framed, itemsAt}
+use Rattle.book.specs.Private.{badItem}
+use Rattle.records.proofs.Tests.{or-no, outside-test, above-test}
+use Rattle.records.proofs.Frames.{Kind, one, two, three, four, kind-of, is-one, is-two, is-three, is-four, room3, room4}
+
+-- ---- 4: the parts of a test, as the code reads them
+
+-- the uncertainty of a tag, a placed number and a text
+uncertain : (tag p text : ℕ)
+    → ((ltb 3 tag || (ltb p (half w64) || ltb (half w64 + 10 ^ 15) p)) || (((eqb tag 0 || eqb tag 3) && ltb (half w64) p) || (ltb tag 2 && not (eqb text 0))))
+    ≡ badUncertainty (record { tag = tag; nanoseconds = meant w64 p; text = text })
+unfolding meant
+uncertain tag p text = rw (outside-test w64 (half w64) (half w64 + 10 ^ 15) p, above-test w64 (half w64) p)
+
+module _ (s : List ℕ) (at k : ℕ) where
+  pub uncertain-at : (p a b c : ℕ) → p ≡ tag k .from → a ≡ field 1 s (at + p) → b ≡ turned w64 (field 8 s (at + p + 1)) → c ≡ field 2 s (at + p + 9)
+      → ((ltb 3 a || (ltb b (half w64) || ltb (half w64 + 10 ^ 15) b)) || (((eqb a 0 || eqb a 3) && ltb (half w64) b) || (ltb a 2 && not (eqb c 0))))
+      ≡ badUncertainty (publishedAt k s at)
+  uncertain-at p a b c e q r t =
+      let y : at + p + 1 ≡ at + (tag k .from + 1) = omega arith in
+      let z : at + p + 9 ≡ at + (tag k .from + 1 + 8) = omega arith in
+      uncertain a b c
+      ∙ ap badUncertainty
+      (ap₂ (λ (i j : ℕ). record { tag = i; nanoseconds = meant w64 j; text = c }) (q ∙ ap (λ (i : ℕ). field 1 s (at + i)) e) (r ∙ ap (λ (i : ℕ). turned w64 (field 8 s i)) y)
+      ∙ ap (λ (i : ℕ). record { tag = number (tag k) s at; nanoseconds = integer w64 (nanoseconds k) s at; text = i }) (t ∙ ap (λ (i : ℕ). field 2 s i) z))
+
+  -- a point or a time
+  pub item-time-only : (t : ℕ) → (k ≡ 3 → ⊥) → t ≡ number (time k) s at → leb dayNs t ≡ badItem s k at
+  item-time-only t n q =
+      ap (leb dayNs) q ∙ sym (or-no (leb dayNs (number (time k) s at)))
+      ∙ ap (λ (b : Bool). leb dayNs (number (time k) s at) || (b && ltb 7 (number (phase k) s at))) (sym (ne-eqb k 3 n))
+
+  pub item-point : (t p r : ℕ) → k ≡ 3 → t ≡ number (time k) s at → p ≡ time k .from → r ≡ field 1 s (at + p + 8) → (leb dayNs t || ltb 7 r) ≡ badItem s k at
+  item-point t p r i q e u =
+      let z : at + p + 8 ≡ at + (time k .from + 8) = omega arith in
+      let w : r ≡ number (phase k) s at = u ∙ ap (λ (j : ℕ). field 1 s j) z in
+      ap₂ (λ (x y : ℕ). leb dayNs x || ltb 7 y) q w
+      ∙ ap (λ (b : Bool). leb dayNs (number (time k) s at) || (b && ltb 7 (number (phase k) s at))) (sym (eq-eqb k 3 i))
+
+-- so many points and times are read
+pub points-length : (s : List ℕ) (at n : ℕ) → length (pointsAt s at n) ≡ n
+unfolding pointsAt
+points-length s at zero = refl
+points-length s at (suc n) = ap suc (points-length s (at + step 3) n)
+
+pub times-length : (s : List ℕ) (at n : ℕ) → length (timesAt s at n) ≡ n
+unfolding timesAt
+times-length s at zero = refl
+times-length s at (suc n) = ap suc (times-length s (at + step 4) n)
+
+module _ (s : List ℕ) (at k : ℕ) (f : Framed s at) (e : k ≡ kindAt s at) where
+  -- ---- 5
+
+  pub never-late : (k ≡ 3 → ⊥) → false ≡ lateStart (recordAt s at)
+  never-late n = go (kind-of s at k f e)
+    where
+      go : Kind k → false ≡ lateStart (recordAt s at)
+      go (one i) = rw (is-one s at k f e i)
+      go (two i) = rw (is-two s at k f e i)
+      go (three i) = absurd (n i)
+      go (four i) = rw (is-four s at k f e i)
+
+  module _ (i : k ≡ 3) where
+    items-three : itemsAt s at ≡ number (count 3) s at
+    items-three = let z : kindAt s at ≡ 3 = sym e ∙ i in rw z
+
+    late-by : (b : Bool) → b ≡ late (pointsAt s at (number (count 3) s at)) → b ≡ lateStart (recordAt s at)
+    late-by b q = q ∙ sym (ap lateStart (is-three s at k f e i))
+
+    pub late-none : itemsAt s at ≡ 0 → true ≡ lateStart (recordAt s at)
+    unfolding pointsAt
+    late-none z = let n : number (count 3) s at ≡ 0 = sym items-three ∙ z in late-by true (rw n)
+
+    late-points : (n : ℕ) → (n ≡ 0 → ⊥) → not (eqb (number (time 3) s at) 0) ≡ late (pointsAt s at n)
+    unfolding pointsAt
+    late-points zero z = absurd (z refl)
+    late-points (suc n) z = refl
+
+    pub late-some : (itemsAt s at ≡ 0 → ⊥) → (t : ℕ) → t ≡ number (time k) s at → not (eqb t 0) ≡ lateStart (recordAt s at)
+    late-some z t q =
+        let r : t ≡ number (time 3) s at = q ∙ ap (λ (j : ℕ). number (time j) s at) i in
+        late-by (not (eqb t 0)) (rw r (late-points (number (count 3) s at) (λ n. z (items-three ∙ n))))
+
+    pub time-room : (itemsAt s at ≡ 0 → ⊥) → at + (time k .from + 8) ≤ length s
+    time-room z =
+        let n : (number (count 3) s at ≡ 0 → ⊥) = λ q. z (items-three ∙ q) in
+        rw i (omega (arith, room3 s at k f e i))
+
+  -- ---- 7
+
+  pub never-reversed : k < 3 → false ≡ reversed (recordAt s at)
+  never-reversed h = go (kind-of s at k f e)
+    where
+      go : Kind k → false ≡ reversed (recordAt s at)
+      go (one i) = rw (is-one s at k f e i)
+      go (two i) = rw (is-two s at k f e i)
+      go (three i) = absurd (omega arith)
+      go (four i) = absurd (omega arith)
+
+  pub days-room : 3 ≤ k → at + 12 ≤ length s
+  days-room h = go (kind-of s at k f e)
+    where
+      go : Kind k → at + 12 ≤ length s
+      go (one i) = absurd (omega arith)
+      go (two i) = absurd (omega arith)
+      go (three i) = omega (arith, room3 s at k f e i)
+      go (four i) = omega (arith, room4 s at k f e i)
+
+  pub reversed-by : 3 ≤ k → ltb (turned w32 (number dayLast s at)) (turned w32 (number dayFirst s at)) ≡ reversed (recordAt s at)
+  reversed-by h = sym (order-lt w32 (turned w32 (number dayLast s at)) (turned w32 (number dayFirst s at))) ∙ go (kind-of s at k f e)
+    where
+      go : Kind k → reversed (rule (ruleAt s at)) ≡ reversed (recordAt s at)
+      go (one i) = absurd (omega arith)
+      go (two i) = absurd (omega arith)
+      go (three i) = rw (is-three s at k f e i)
+      go (four i) = rw (is-four s at k f e i)
+
+  -- ---- 8
+
+  pub no-coverage : (k ≡ 1 → ⊥) → false ≡ coversNothing (recordAt s at)
+  no-coverage n = go (kind-of s at k f e)
+    where
+      go : Kind k → false ≡ coversNothing (recordAt s at)
+      go (one i) = absurd (n i)
+      go (two i) = rw (is-two s at k f e i)
+      go (three i) = rw (is-three s at k f e i)
+      go (four i) = rw (is-four s at k f e i)
+
+  pub covers-by : k ≡ 1 → leb (turned w64 (number coverageEnd s at)) (turned w64 (number coverageStart s at)) ≡ coversNothing (recordAt s at)
+  covers-by i =
+      sym (order-le w64 (turned w64 (number coverageEnd s at)) (turned w64 (number coverageStart s at))) ∙ sym (ap coversNothing (is-one s at k f e i))
