@@ -8,7 +8,7 @@ use mir.Syntax.{w64}
 use Rattle.wire.specs.Signs.{turned}
 use Rattle.book.specs.declared.judge.Seen.{Seen}
 use Rattle.records.specs.Layout.{number, kind, by, transitionInstant, time, phase, step}
-use Rattle.records.specs.Book.{badTime, kindAt, spacing}
+use Rattle.records.specs.Book.{many, records, badTime, kindAt, spacing}
 
 -- one point or time, read from `at` on
 abbrev pub badItem : List ℕ → ℕ → ℕ → Bool

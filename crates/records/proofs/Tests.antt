@@ -4,7 +4,7 @@ use mathlib.Core.Bool.{Bool, true, false, not, _&&_, _||_}
 use Prim.Native.Nat.{ℕ, _≤_}
 use native.Mathlib.Nat.{lt-of-not-le}
 use native.Mathlib.Decide.{decLe}
-use borrow.Author.Tests.{lt-ltb, le-ltb, le-leb, lt-leb, ne-eqb}
+use borrow.Author.Tests.{lt-ltb, le-ltb, le-leb, lt-leb, ne-eqb, ltb-false}
 use lib.Dec.{ltb, leb}
 use lib.Signed.{leZ}
 use mir.Syntax.{Width}
@@ -37,6 +37,11 @@ not-and false b = refl
 pub outside-test : (w : Width) (low high p : ℕ) → (ltb p low || ltb high p) ≡ not (inside (placedRange w low high) (meant w p))
 outside-test w low high p =
     sym (ap not (ap₂ _&&_ (order-le w low p) (order-le w p high)) ∙ not-and (leb low p) (leb p high) ∙ ap₂ _||_ (not-leb low p) (not-leb p high))
+
+pub inside-range : (w : Width) (low high p : ℕ) → not (inside (placedRange w low high) (meant w p)) ≡ false → (low ≤ p) × (p ≤ high)
+inside-range w low high p q =
+    let h = or-false (ltb p low) (ltb high p) (outside-test w low high p ∙ q) in
+    (ltb-false p low (h .0), ltb-false high p (h .1))
 
 -- not at most: above
 pub above-test : (w : Width) (x p : ℕ) → ltb x p ≡ not (leZ (meant w p) (meant w x))

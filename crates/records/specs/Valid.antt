@@ -4,11 +4,15 @@ use mathlib.Core.Path.{_≡_}
 use mathlib.Core.Bool.{true, false}
 use mathlib.Core.List.{List, [], _∷_}
 use lib.IntN.{ℤ, pos, _+ℤ_}
-use lib.ListN.{length}
+use lib.ListN.{length, getD}
 use lib.Signed.{leZ}
 use Rattle.records.specs.Limits.{Limits}
 use Rattle.records.specs.Records.{Rule, Event, Record, coverage, transition, rule, event, kindOf, encodeAll}
 use Rattle.records.specs.Book.{spacing, many, most, outside, lateStart, falling, reversed, coversNothing}
+
+-- every element is a byte
+abbrev pub Bytes : List ℕ → Type 0
+Bytes s = (k : ℕ) → getD s k 0 < 256
 
 -- numbers without a range of their own fit their two bytes
 pub record FitsRule (r : Rule) : Type 0 where

@@ -13,7 +13,7 @@ use lib.Signed.{ltZ, leZ}
 use mir.Syntax.{Width}
 use mir.Val.{bits, toZ, ofZ, SFits}
 use mir.ValLaws.{pow-bits, toZ-pos, toZ-ofZ}
-use Rattle.wire.specs.Signs.{half, placed, meant, turned, between}
+use Rattle.wire.specs.Signs.{half, since, placed, meant, turned, between}
 
 pub and-true : (a b : Bool) → (a && b) ≡ true → (a ≡ true) × (b ≡ true)
 and-true true b e = (refl, e)
@@ -114,6 +114,15 @@ module _ (w : Width) where
           let l = ltb-false x (half w) e in
           let z : x - half w + k ≡ x + k - half w = omega arith in
           simp (e, le-ltb (x + k) (half w) (omega arith), z)
+
+  -- counted from another origin
+  pub since-meant : (e x : ℕ) → e ≤ half w → half w - e ≤ x → since e (meant w x) ≡ x - (half w - e)
+  unfolding meant
+  since-meant e x l h = go (ltb x (half w)) refl
+    where
+      go : (b : Bool) → ltb x (half w) ≡ b → since e (subℕ x (half w)) ≡ x - (half w - e)
+      go true q = let k = ltb-true x (half w) q in simp q (omega arith)
+      go false q = let k = ltb-false x (half w) q in simp q (omega arith)
 
   -- ---- order is kept: the tests on placed numbers are the tests on the integers that they mean
 

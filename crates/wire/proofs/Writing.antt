@@ -117,6 +117,13 @@ wrote-wrote l at n vs ws q p =
     ∙ sets-append vs ws l at
     ∙ sets-eq (vs ++ ws) l at j
 
+-- one number, then the others behind it
+pub wrote-one : (l : List ℕ) (at v : ℕ) (vs : List ℕ) → Inside at (1 + length vs) l → wrote l at (v ∷ vs) ≡ wrote (set l at v) (at + 1) vs
+unfolding wrote
+wrote-one l at v vs h =
+    let k : suc at + length vs ≤ length (set l at v) = omega (arith, length-set l at v) in
+    sym (sets-eq (v ∷ vs) l at (omega arith)) ∙ sets-eq vs (set l at v) (suc at) k ∙ ap (λ (i : ℕ). wrote (set l at v) i vs) (sym (add-one at))
+
 pub wrote-nothing : (l : List ℕ) (at : ℕ) → wrote l at [] ≡ l
 unfolding wrote
 wrote-nothing l at = simp (append-nil, add-zero, take-append-drop)

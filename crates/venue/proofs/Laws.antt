@@ -1,0 +1,207 @@
+-- What an accepted book lists, for those who read it: places, rules, events, header and clock changes. Assumes nothing.
+use mathlib.Core.Path.{_≡_, refl, sym, ap, _∙_}
+use mathlib.Core.List.{List, [], _∷_, map}
+use mathlib.Core.Option.{some}
+use Prim.Native.Nat.{ℕ, zero, suc, _≤_, _<_}
+use native.Mathlib.Nat.{le-of-suc-le-suc, lt-of-not-le}
+use native.Mathlib.Decide.{ℕ-discrete, decLe}
+use native.Mathlib.Omega.{arith}
+use borrow.Author.Tests.{eqb-true, not-false}
+use lib.ListN.{length, getD}
+use Rattle.zone.specs.Answers.{Valid}
+use Rattle.records.specs.Limits.{base}
+use Rattle.records.specs.Records.{Coverage, Record, kindOf, coverageAt, ruleAt, eventAt, recordAt}
+use Rattle.records.specs.Book.{kindAt, nextAt, many, refusal, recordsFrom, records}
+use Rattle.records.specs.Frame.{Framed}
+use Rattle.records.proofs.Frames.{Kind, one, two, three, four, kind-of, is-one, is-two, is-three, is-four}
+use Rattle.venue.specs.Opening.{offsetOf, coverageOf, rulesOf, eventsOf, atsOf, offsetsOf, placesFrom, places}
+use Rattle.venue.proofs.Passing.{Ahead, Next, ahead-start, ahead-next, no-turns, kind-here, no-records, no-places, one-record, one-place, no-place, places-many, few-records}
+use Rattle.venue.specs.Reading.{Listed, GoodCoverage, GoodRule, GoodEvent}
+use Rattle.venue.proofs.Listing.{day-value, rule-fields, rule-each, rule-rises, event-fields, event-each}
+use Rattle.venue.proofs.Changes.{Chain, covers-good, changes-valid}
+
+-- ---- a rule or event that is listed is good
+
+pub good-rule : (s : List ℕ) (p : ℕ) → Listed 3 s p → GoodRule (ruleAt s p)
+good-rule s p l =
+    let f = rule-fields l in
+    let d = f .dates-in in
+    let a = day-value _ (d .first-low) in
+    let b = day-value _ (d .last-low) in
+    record {
+      first-low = omega (arith, a, d .first-low);
+      order = omega (arith, a, b, d .order);
+      last-high = omega (arith, b, d .last-high);
+      code = f .code;
+      mask = f .mask;
+      from-midnight = rule-rises l;
+      each = rule-each l;
+      few = f .few;
+    }
+
+pub good-event : (s : List ℕ) (p : ℕ) → Listed 4 s p → GoodEvent (eventAt s p)
+good-event s p l =
+    let f = event-fields l in
+    let d = f .dates-in in
+    let a = day-value _ (d .first-low) in
+    let b = day-value _ (d .last-low) in
+    record {
+      first-low = omega (arith, a, d .first-low);
+      order = omega (arith, a, b, d .order);
+      last-high = omega (arith, b, d .last-high);
+      each = event-each l;
+      few = f .few;
+    }
+
+-- ---- every place that opening stores is listed
+
+listed-here : {k : ℕ} {s : List ℕ} {at turns : ℕ} {before : List Record} → Next s at turns before → kindAt s at ≡ k → Listed k s at
+listed-here n e =
+    let p = n .passes in
+    record {
+      small = n .ahead .small;
+      frame = n .frame;
+      kind = e;
+      within = p .fields;
+      prompt = p .prompt;
+      rising = p .rising;
+      forward = p .forward;
+    }
+
+-- all that stand in a list
+abbrev AllListed : ℕ → List ℕ → List ℕ → Type 0
+AllListed k s [] = Unit {0}
+AllListed k s (p ∷ ps) = Listed k s p × AllListed k s ps
+
+listed-from : (k : ℕ) {s : List ℕ} (turns : ℕ) {at : ℕ} {before : List Record} → Ahead s at turns before → AllListed k s (placesFrom k s turns at)
+unfolding placesFrom
+listed-from k zero a = tt
+listed-from k {s} (suc g) {at} {before} a = go (λ h. listed-from k g (ahead-next a h .ahead)) (decLe (length s) at)
+  where
+    by-kind : (h : at < length s) → AllListed k s (placesFrom k s g (nextAt s at)) → Dec (kindAt s at ≡ k) → AllListed k s (placesFrom k s (suc g) at)
+    by-kind h more (yes e) = rw (one-place s at g h k e) (listed-here (ahead-next a h) e, more)
+    by-kind h more (no e) = rw (no-place s at g h k e) more
+
+    go : ((h : at < length s) → AllListed k s (placesFrom k s g (nextAt s at))) → Dec (length s ≤ at) → AllListed k s (placesFrom k s (suc g) at)
+    go more (yes h) = rw (no-places s at k (suc g) h) tt
+    go more (no h) = by-kind (lt-of-not-le h) (more (lt-of-not-le h)) (ℕ-discrete (kindAt s at) k)
+
+one-of : (k : ℕ) (s ps : List ℕ) → AllListed k s ps → (i : ℕ) → i < length ps → Listed k s (getD ps i 0)
+one-of k s [] a i h = absurd (omega arith)
+one-of k s (p ∷ ps) a zero h = a .0
+one-of k s (p ∷ ps) a (suc i) h = one-of k s ps (a .1) i (le-of-suc-le-suc h)
+
+pub places-listed : (k : ℕ) (s : List ℕ) → refusal base s ≡ 0 → (i : ℕ) → i < length (places k s) → Listed k s (getD (places k s) i 0)
+places-listed k s e i h = one-of k s (places k s) (listed-from k (length s) (ahead-start s e)) i h
+
+-- ---- in the listed order
+
+-- what a list of records holds of kind k is read at their places
+module _ {A : Type 0} (k : ℕ) (s : List ℕ) (read : ℕ → A) (of : List Record → List A)
+    (none-of : of [] ≡ [])
+    (one-of-kind : (at : ℕ) (rs : List Record) → Framed s at → kindAt s at ≡ k → of (recordAt s at ∷ rs) ≡ read at ∷ of rs)
+    (one-of-other : (at : ℕ) (rs : List Record) → Framed s at → (kindAt s at ≡ k → ⊥) → of (recordAt s at ∷ rs) ≡ of rs)
+  where
+    in-order : (turns : ℕ) {at : ℕ} {before : List Record} → Ahead s at turns before → map read (placesFrom k s turns at) ≡ of (recordsFrom s turns at)
+    unfolding placesFrom recordsFrom
+    in-order zero a = sym none-of
+    in-order (suc g) {at} {before} a = go (λ h. in-order g (ahead-next a h .ahead)) (decLe (length s) at)
+      where
+        by-kind : (h : at < length s) → map read (placesFrom k s g (nextAt s at)) ≡ of (recordsFrom s g (nextAt s at)) → Dec (kindAt s at ≡ k)
+            → map read (placesFrom k s (suc g) at) ≡ of (recordsFrom s (suc g) at)
+        by-kind h more (yes e) =
+            ap (map read) (one-place s at g h k e) ∙ ap (_∷_ (read at)) more
+            ∙ sym (ap of (one-record s at g h) ∙ one-of-kind at (recordsFrom s g (nextAt s at)) (ahead-next a h .frame) e)
+        by-kind h more (no e) =
+            ap (map read) (no-place s at g h k e) ∙ more
+            ∙ sym (ap of (one-record s at g h) ∙ one-of-other at (recordsFrom s g (nextAt s at)) (ahead-next a h .frame) e)
+
+        go : ((h : at < length s) → map read (placesFrom k s g (nextAt s at)) ≡ of (recordsFrom s g (nextAt s at))) → Dec (length s ≤ at)
+            → map read (placesFrom k s (suc g) at) ≡ of (recordsFrom s (suc g) at)
+        go more (yes h) = ap (map read) (no-places s at k (suc g) h) ∙ sym (ap of (no-records s at (suc g) h) ∙ none-of)
+        go more (no h) = by-kind (lt-of-not-le h) (more (lt-of-not-le h)) (ℕ-discrete (kindAt s at) k)
+
+module _ (s : List ℕ) (at : ℕ) (rs : List Record) (f : Framed s at) where
+  abbrev kind-here-is : Kind (kindAt s at)
+  kind-here-is = kind-of s at (kindAt s at) f refl
+
+  one-rule : kindAt s at ≡ 3 → rulesOf (recordAt s at ∷ rs) ≡ ruleAt s at ∷ rulesOf rs
+  unfolding rulesOf
+  one-rule e = rw (is-three s at (kindAt s at) f refl e)
+
+  no-rule : (kindAt s at ≡ 3 → ⊥) → rulesOf (recordAt s at ∷ rs) ≡ rulesOf rs
+  unfolding rulesOf
+  no-rule n = go kind-here-is
+    where
+      go : Kind (kindAt s at) → rulesOf (recordAt s at ∷ rs) ≡ rulesOf rs
+      go (one i) = rw (is-one s at (kindAt s at) f refl i)
+      go (two i) = rw (is-two s at (kindAt s at) f refl i)
+      go (three i) = absurd (n i)
+      go (four i) = rw (is-four s at (kindAt s at) f refl i)
+
+  one-event : kindAt s at ≡ 4 → eventsOf (recordAt s at ∷ rs) ≡ eventAt s at ∷ eventsOf rs
+  unfolding eventsOf
+  one-event e = rw (is-four s at (kindAt s at) f refl e)
+
+  no-event : (kindAt s at ≡ 4 → ⊥) → eventsOf (recordAt s at ∷ rs) ≡ eventsOf rs
+  unfolding eventsOf
+  no-event n = go kind-here-is
+    where
+      go : Kind (kindAt s at) → eventsOf (recordAt s at ∷ rs) ≡ eventsOf rs
+      go (one i) = rw (is-one s at (kindAt s at) f refl i)
+      go (two i) = rw (is-two s at (kindAt s at) f refl i)
+      go (three i) = rw (is-three s at (kindAt s at) f refl i)
+      go (four i) = absurd (n i)
+
+pub rules-listed : (s : List ℕ) → refusal base s ≡ 0 → map (ruleAt s) (places 3 s) ≡ rulesOf (records s)
+unfolding records rulesOf
+rules-listed s e = in-order 3 s (ruleAt s) rulesOf refl (one-rule s) (no-rule s) (length s) (ahead-start s e)
+
+pub events-listed : (s : List ℕ) → refusal base s ≡ 0 → map (eventAt s) (places 4 s) ≡ eventsOf (records s)
+unfolding records eventsOf
+events-listed s e = in-order 4 s (eventAt s) eventsOf refl (one-event s) (no-event s) (length s) (ahead-start s e)
+
+-- ---- how many there are
+
+pub rules-count : (s : List ℕ) → refusal base s ≡ 0 → (length (places 3 s) ≡ many 3 (records s)) × (many 3 (records s) ≤ base .rules)
+unfolding records
+rules-count s e = (places-many 3 (length s) (ahead-start s e), few-records 3 s e)
+
+pub events-count : (s : List ℕ) → refusal base s ≡ 0 → (length (places 4 s) ≡ many 4 (records s)) × (many 4 (records s) ≤ base .events)
+unfolding records
+events-count s e = (places-many 4 (length s) (ahead-start s e), few-records 4 s e)
+
+-- ---- the header and the clock changes
+
+chain-from : {s : List ℕ} (turns : ℕ) {at : ℕ} {before : List Record} → Ahead s at turns before → Chain before (recordsFrom s turns at)
+unfolding recordsFrom
+chain-from zero a = tt
+chain-from {s} (suc g) {at} {before} a = go (λ h. chain-from g (ahead-next a h .ahead)) (decLe (length s) at)
+  where
+    go : ((h : at < length s) → Chain (recordAt s at ∷ before) (recordsFrom s g (nextAt s at))) → Dec (length s ≤ at) → Chain before (recordsFrom s (suc g) at)
+    go more (yes h) = rw (no-records s at (suc g) h) tt
+    go more (no h) = rw (one-record s at g (lt-of-not-le h)) (ahead-next a (lt-of-not-le h) .passes, more (lt-of-not-le h))
+
+chain : (s : List ℕ) → refusal base s ≡ 0 → Chain [] (records s)
+unfolding records
+chain s e = chain-from (length s) (ahead-start s e)
+
+pub good-coverage : (s : List ℕ) → refusal base s ≡ 0 → (c : Coverage) → coverageOf (records s) ≡ some c → GoodCoverage c
+good-coverage s e c q = covers-good (records s) (chain s e) c q
+
+-- its clock changes are a zone's
+pub zone-valid : (s : List ℕ) → refusal base s ≡ 0 → (c : Coverage) → coverageOf (records s) ≡ some c
+    → Valid (offsetOf (c .offset)) (atsOf (records s)) (offsetsOf (records s))
+zone-valid s e c q = changes-valid (records s) (chain s e) c q
+
+-- a book that is accepted and not empty begins with its coverage
+covered-by : (s : List ℕ) (turns : ℕ) → Ahead s 0 turns [] → 0 < length s → coverageOf (recordsFrom s turns 0) ≡ some (coverageAt s 0)
+covered-by s zero a h = absurd (no-turns a h)
+covered-by s (suc g) a h =
+    let n = ahead-next a h in
+    let k = sym (kind-here s 0 (n .frame)) ∙ eqb-true (kindOf (recordAt s 0)) 1 (not-false _ (n .passes .headed)) in
+    ap coverageOf (one-record s 0 g h) ∙ ap (λ (r : Record). coverageOf (r ∷ recordsFrom s g (nextAt s 0))) (is-one s 0 (kindAt s 0) (n .frame) refl k)
+
+pub covered : (s : List ℕ) → refusal base s ≡ 0 → (length s ≡ 0 → ⊥) → coverageOf (records s) ≡ some (coverageAt s 0)
+unfolding records
+covered s e n = covered-by s (length s) (ahead-start s e) (omega arith)

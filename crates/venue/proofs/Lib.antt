@@ -1,0 +1,5 @@
+pub mod Passing
+pub mod Header
+pub mod Listing
+pub mod Changes
+pub mod Laws

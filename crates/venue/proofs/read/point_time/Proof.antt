@@ -1,0 +1,57 @@
+use Rattle.venue.proofs.Listing.{point-room, time-read}
+use native.Mathlib.Omega.{arith}
+use borrow.Author.Needs.{needs}
+use Rattle.venue.proofs.read.point_time.Statement.{statement}
+use Rattle.venue.proofs.read.point_time.Tie as tie
+
+mul-get8 : tie.Need-mul-get8
+mul-get8 c =
+    let p = c .before .before .pre in
+    let e = c .step-of .ensures .0 in
+    let r = point-room (p .0) (p .1) in
+    let b = p .0 .small in
+    rw e (omega arith)
+
+add-get8 : tie.Need-add-get8
+add-get8 c =
+    let p = c .before .before .pre in
+    let e = c .step-of .ensures .0 in
+    let r = point-room (p .0) (p .1) in
+    let b = p .0 .small in
+    rw e (omega arith)
+
+add-get8-2 : tie.Need-add-get8-2
+add-get8-2 c =
+    let p = c .before .before .before .pre in
+    let d = c .before .step-of .ensures .0 in
+    let e = c .time-place .ensures .0 in
+    let r = point-room (p .0) (p .1) in
+    let b = p .0 .small in
+    rw (d, e) (omega arith)
+
+get8-requires : tie.Need-get8-requires
+get8-requires c κs =
+    let p = c .before .before .before .pre in
+    let d = c .before .step-of .ensures .0 in
+    let e = c .time-place .ensures .0 in
+    let r = point-room (p .0) (p .1) in
+    let b = p .0 .small in
+    rw (d, e) (omega arith)
+
+returns : tie.Need-returns
+returns c =
+    let at-time-place = c .before in
+    let p = at-time-place .before .before .before .pre in
+    time-read (p .0) (p .1) (rw (at-time-place .before .step-of .ensures .0, at-time-place .time-place .ensures .0) at (c .get8 .ensures))
+
+pub point-time-spec : {M : Type 1} → statement M
+point-time-spec =
+    tie.close
+    (tie.spec
+    (λ c κs. search needs)
+    mul-get8
+    add-get8
+    (λ c κs. search needs)
+    add-get8-2
+    get8-requires
+    returns)

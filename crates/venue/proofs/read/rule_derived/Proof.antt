@@ -1,0 +1,16 @@
+use Rattle.venue.proofs.Listing.{rule-room}
+use native.Mathlib.Omega.{arith}
+use borrow.Author.Needs.{needs}
+use Rattle.venue.proofs.read.rule_derived.Statement.{statement}
+use Rattle.venue.proofs.read.rule_derived.Tie as tie
+
+get2-requires : tie.Need-get2-requires
+get2-requires c κs = omega (arith, rule-room (c .before .pre))
+
+pub rule-derived-spec : {M : Type 1} → statement M
+rule-derived-spec =
+    tie.close
+    (tie.spec
+    (λ c. search needs)
+    get2-requires
+    (λ c. search needs))

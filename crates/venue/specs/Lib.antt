@@ -1,0 +1,3 @@
+pub mod Opening
+pub mod Reading
+pub mod Private

@@ -1,0 +1,79 @@
+-- The rules and events of an accepted book, by where they stand, and what is known of them. Assumes nothing.
+use Prim.Native.Nat.{ℕ, _*_, _≤_, _<_}
+use mathlib.Core.Path.{_≡_}
+use mathlib.Core.Bool.{false, cond}
+use mathlib.Core.List.{List, [], _∷_}
+use lib.Dec.{eqb}
+use lib.ListN.{length}
+use Rattle.wire.specs.Signs.{since}
+use Rattle.calendar.specs.Answers.{firstDay, lastDay}
+use Rattle.zone.specs.Units.{dayNs}
+use Rattle.zone.specs.declared.Uncertainty.{Uncertainty}
+use Rattle.zone.specs.declared.Uncertainty.the-variants.{Exact, PublishedGranularity, PublishedBound, ProcessStart}
+use Rattle.records.specs.Limits.{base}
+use Rattle.records.specs.Records.{Coverage, Published, Point, Rule, Event, recordAt}
+use Rattle.records.specs.Frame.{Framed}
+use Rattle.records.specs.Book.{kindAt, outside, lateStart, falling, reversed}
+use Rattle.venue.specs.Opening.{instantOf, dayOf}
+
+-- a record of kind k of an accepted book stands at p
+pub record Listed (k : ℕ) (s : List ℕ) (p : ℕ) : Type 0 where
+  pub small : length s ≤ base .bytes
+  pub frame : Framed s p
+  pub kind : kindAt s p ≡ k
+  pub within : outside base (recordAt s p) ≡ false
+  pub prompt : lateStart (recordAt s p) ≡ false
+  pub rising : falling (recordAt s p) ≡ false
+  pub forward : reversed (recordAt s p) ≡ false
+
+-- a published uncertainty: tag 0 exact, 1 granularity, 2 bound, 3 process start
+abbrev pub published : Published → Uncertainty
+published u =
+    cond (eqb (u .tag) 0) Exact
+    (cond (eqb (u .tag) 1) (PublishedGranularity (since 0 (u .nanoseconds)))
+    (cond (eqb (u .tag) 2) (PublishedBound (since 0 (u .nanoseconds)) (u .text)) (ProcessStart (u .text))))
+
+-- where a list has no such point
+abbrev pub midnight : Point
+midnight = record { time = 0; phase = 0 }
+
+-- ---- what an accepted book gives
+
+pub record GoodCoverage (c : Coverage) : Type 0 where
+  pub start-low : firstDay * dayNs ≤ instantOf (c .start)
+  pub order : instantOf (c .start) < instantOf (c .end)
+  pub end-high : instantOf (c .end) ≤ lastDay * dayNs
+
+-- points rise from 00:00
+abbrev pub Rising : ℕ → List Point → Type 0
+Rising t [] = Unit {0}
+Rising t (p ∷ ps) = (t < p .time) × Rising (p .time) ps
+
+abbrev pub FromMidnight : List Point → Type 0
+FromMidnight [] = ⊥
+FromMidnight (p ∷ ps) = (p .time ≡ 0) × Rising (p .time) ps
+
+abbrev pub EachPoint : List Point → Type 0
+EachPoint [] = Unit {0}
+EachPoint (p ∷ ps) = (p .time < dayNs) × (p .phase ≤ 7) × EachPoint ps
+
+abbrev pub EachTime : List ℕ → Type 0
+EachTime [] = Unit {0}
+EachTime (t ∷ ts) = (t < dayNs) × EachTime ts
+
+pub record GoodRule (r : Rule) : Type 0 where
+  pub first-low : firstDay ≤ dayOf (r .first)
+  pub order : dayOf (r .first) ≤ dayOf (r .last)
+  pub last-high : dayOf (r .last) ≤ lastDay
+  pub code : r .code ≤ 3
+  pub mask : r .mask ≤ 127
+  pub from-midnight : FromMidnight (r .points)
+  pub each : EachPoint (r .points)
+  pub few : length (r .points) ≤ base .points
+
+pub record GoodEvent (e : Event) : Type 0 where
+  pub first-low : firstDay ≤ dayOf (e .first)
+  pub order : dayOf (e .first) ≤ dayOf (e .last)
+  pub last-high : dayOf (e .last) ≤ lastDay
+  pub each : EachTime (e .times)
+  pub few : length (e .times) ≤ base .times

@@ -1,0 +1,123 @@
+// A book opened: judged first, then what it holds put into arrays that the caller lends.
+ghost use mathlib.Core.Path.{_≡_};
+ghost use lib.ListN.{length};
+ghost use Rattle.records.specs.Book.{many, records};
+ghost use Rattle.wire.specs.Fields.{wrote};
+ghost use Rattle.venue.specs.Opening.{opened, stored, atsOf, offsetsOf, places as Opening·places};
+ghost use Rattle.venue.specs.Private.{Fitting};
+use book::MOST_EVENTS;
+use book::MOST_RULES;
+use book::MOST_TRANSITIONS;
+use book::check;
+use records::COVERAGE_END;
+use records::COVERAGE_OFFSET;
+use records::COVERAGE_START;
+use records::EVENT;
+use records::KIND;
+use records::RULE;
+use records::TRANSITION;
+use records::TRANSITION_INSTANT;
+use records::TRANSITION_OFFSET;
+use wire::get2;
+use wire::signed4;
+use wire::signed8;
+use zone::Instant;
+
+// Coverage, the first offset, in seconds plus 57,600, and how many of each kind there are.
+pub struct Header {
+    pub start: Instant,
+    pub end: Instant,
+    pub first: u32,
+    pub transitions: usize,
+    pub rules: usize,
+    pub events: usize,
+}
+
+// An empty book is a venue without data.
+pub enum Opened {
+    Refused(u32),
+    Empty,
+    Venue(Header),
+}
+
+// 1899-12-25 as a placed number of nanoseconds and of seconds, and an offset of -57,600 as one of seconds.
+const INSTANT_ZERO: u64 = 0x8000_0000_0000_0000 - 2_209_593_600_000_000_000;
+
+const SECOND_ZERO: u64 = 0x8000_0000_0000_0000 - 2_209_593_600;
+
+const OFFSET_ZERO: u32 = 0x8000_0000 - 57_600;
+
+const SECOND_NS: u64 = 1_000_000_000;
+
+// Stores the clock changes of an accepted book, and answers how many there are.
+fn changes(book: &[u8], ats: &mut [u64], offsets: &mut [u32]) -> usize
+    requires { ⌜ Fitting 2 (now book) (now ats) × (length (now offsets) ≡ length (now ats)) ⌝ }
+    ensures { λ n. ⌜ (n ≡ many 2 (records (now (book .entry)))) × (now (ats .exit) ≡ wrote (now (ats .entry)) 0 (atsOf (records (now (book .entry))))) × (now (offsets .exit) ≡ wrote (now (offsets .entry)) 0 (offsetsOf (records (now (book .entry))))) ⌝ }
+{
+    let mut at: usize = 0;
+    let mut n: usize = 0;
+    while at < book.len() {
+        if get2(book, at + KIND) == TRANSITION {
+            ats[n] = (signed8(book, at + TRANSITION_INSTANT).0 - SECOND_ZERO) * SECOND_NS;
+            offsets[n] = signed4(book, at + TRANSITION_OFFSET).0 - OFFSET_ZERO;
+            n += 1;
+        }
+        at += 2 + get2(book, at) as usize;
+    }
+    n
+}
+
+// Stores where the records of a kind stand in an accepted book, and answers how many there are.
+fn places(book: &[u8], kind: u16, found: &mut [u32]) -> usize
+    requires { ⌜ Fitting kind (now book) (now found) ⌝ }
+    ensures { λ n. ⌜ (n ≡ many kind (records (now (book .entry)))) × (now (found .exit) ≡ wrote (now (found .entry)) 0 (Opening·places kind (now (book .entry)))) ⌝ }
+{
+    let mut at: usize = 0;
+    let mut n: usize = 0;
+    while at < book.len() {
+        if get2(book, at + KIND) == kind {
+            found[n] = at as u32;
+            n += 1;
+        }
+        at += 2 + get2(book, at) as usize;
+    }
+    n
+}
+
+// Judges a book and, if it is accepted, stores its clock changes' instants and offsets and where its rules and its events stand.
+pub fn open(
+    book: &[u8],
+    ats: &mut [u64; MOST_TRANSITIONS],
+    offsets: &mut [u32; MOST_TRANSITIONS],
+    rules: &mut [u32; MOST_RULES],
+    events: &mut [u32; MOST_EVENTS],
+) -> Opened
+    ensures { λ r.
+        ⌜ (r ≡ opened (now (book .entry)))
+        × (now (ats .exit) ≡ stored (now (book .entry)) (now (ats .entry)) (atsOf (records (now (book .entry)))))
+        × (now (offsets .exit) ≡ stored (now (book .entry)) (now (offsets .entry)) (offsetsOf (records (now (book .entry)))))
+        × (now (rules .exit) ≡ stored (now (book .entry)) (now (rules .entry)) (Opening·places 3 (now (book .entry))))
+        × (now (events .exit) ≡ stored (now (book .entry)) (now (events .entry)) (Opening·places 4 (now (book .entry)))) ⌝ }
+{
+    let number = check(book);
+    if number != 0 {
+        return Opened::Refused(number);
+    }
+    if book.len() == 0 {
+        return Opened::Empty;
+    }
+    let start = Instant(signed8(book, COVERAGE_START).0 - INSTANT_ZERO);
+    let end = Instant(signed8(book, COVERAGE_END).0 - INSTANT_ZERO);
+    let first = signed4(book, COVERAGE_OFFSET).0 - OFFSET_ZERO;
+    let transitions = changes(book, ats, offsets);
+    let rules = places(book, RULE, rules);
+    let events = places(book, EVENT, events);
+    Opened::Venue(Header {
+        start,
+        end,
+        first,
+        transitions,
+        rules,
+        events,
+    })
+}
