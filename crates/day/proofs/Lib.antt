@@ -1,0 +1,5 @@
+pub mod Choosing
+pub mod Governs
+pub mod Cutting
+pub mod Points
+pub mod Theorems

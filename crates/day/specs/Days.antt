@@ -1,0 +1,73 @@
+-- A venue's values, a date's spans, and the point: document 01, phase rules 2 and 3. Assumes nothing.
+use Prim.Native.Nat.{ℕ, _-_}
+use mathlib.Core.Bool.{cond}
+use mathlib.Core.List.{List, [], _∷_}
+use mathlib.Core.Option.{Option, none, some}
+use lib.Dec.{ltb}
+use Rattle.zone.specs.Zone.{Zone, zoneOf, dateAt, resolve}
+use Rattle.zone.specs.Units.{nearestReading, readingAt}
+use Rattle.zone.specs.Answers.{taken, uncertain, widestOf}
+use Rattle.zone.specs.declared.Boundary.{Boundary}
+use Rattle.zone.specs.declared.Uncertainty.{Uncertainty}
+use Rattle.records.specs.Records.{Coverage, Rule, Event, Record}
+use Rattle.venue.specs.Opening.{instantOf, offsetOf, atsOf, offsetsOf, rulesOf, eventsOf}
+use Rattle.venue.specs.Reading.{published}
+use Rattle.spans.specs.Spans.{Span}
+use Rattle.spans.specs.Timeline.{Edge, Venue, Part, pointAt}
+use Rattle.day.specs.Governing.{governing}
+
+-- a venue's values: coverage, zone, which rule governs a date, and the event rules
+pub record Values : Type 0 where
+  pub coverage : Part
+  pub zone : Zone
+  pub governing : ℕ → Option Rule
+  pub events : List Event
+
+abbrev pub valuesOf : List Record → Coverage → Values
+valuesOf rs c =
+    record {
+      coverage = record { start = instantOf (c .start); end = instantOf (c .end) };
+      zone = zoneOf (offsetOf (c .offset)) (atsOf rs) (offsetsOf rs);
+      governing = governing (rulesOf rs);
+      events = eventsOf rs;
+    }
+
+-- what a span of a date holds: its two boundaries, a point's phase, and the rule that governs the date
+pub record Held : Type 0 where
+  pub start : Boundary
+  pub end : Boundary
+  pub phase : ℕ
+  pub rule : Rule
+
+-- a boundary carries its instant, raised or not, and its own uncertainty: the doubt, else the rule's
+abbrev pub boundaryOf : Zone → Rule → Edge → Boundary
+boundaryOf z r e =
+    record {
+      at = record { 0 = e .at };
+      uncertainty = uncertain (resolve z (nearestReading (readingAt (e .date) (e .time)))) (published (r .uncertainty));
+    }
+
+abbrev pub venueBy : Zone → (ℕ → Option Rule) → Venue Held
+venueBy z g =
+    record {
+      reads = λ t. dateAt z t;
+      conv = λ d x. taken (resolve z (nearestReading (readingAt d x)));
+      governing = g;
+      body = λ r s p e. record { start = boundaryOf z r s; end = boundaryOf z r e; phase = p; rule = r };
+    }
+
+abbrev pub venueOf : Values → Venue Held
+venueOf v = venueBy (v .zone) (v .governing)
+
+-- the whole uncertainty of a span
+abbrev pub whole : Held → Uncertainty
+whole h = widestOf (h .start .uncertainty) (h .end .uncertainty)
+
+-- the first of the spans that ends after t
+unfoldable pub after : {A : Type 0} → ℕ → List (Span A) → Option A
+after t [] = none
+after t (s ∷ ss) = cond (ltb t (s .to)) (some (s .body)) (after t ss)
+
+-- the point answer: a known one is a whole span, clipped by nothing
+abbrev pub pointOf : Values → ℕ → Option Held
+pointOf v t = pointAt (λ (h : Held). h) (venueOf v) (v .coverage) t

@@ -1,0 +1,4 @@
+pub mod Governing
+pub mod Days
+pub mod Meaning
+pub mod Examples

@@ -1,0 +1,121 @@
+// The phase at an instant.
+ghost use mathlib.Core.Path.{_≡_};
+ghost use mathlib.Core.List.{map};
+ghost use Prim.Native.Nat.{_-_};
+ghost use Rattle.zone.specs.Zone.{zoneOf};
+ghost use Rattle.zone.specs.Answers.{Valid};
+ghost use Rattle.records.specs.Records.{ruleAt};
+ghost use Rattle.spans.specs.Spans.{look};
+ghost use Rattle.spans.specs.Timeline.{spans, pointAt};
+ghost use Rattle.day.specs.Governing.{governing as Governing·governing};
+ghost use Rattle.day.specs.Days.{Held, venueBy, after};
+ghost use Rattle.day.specs.Meaning.{AllListed, held, Placed, begun as Meaning·begun};
+use crate::Governed;
+use crate::Segment;
+use crate::Spanned;
+use crate::cut::span_after;
+use crate::govern::governing;
+use calendar::Day;
+use zone::Instant;
+use zone::day_at;
+
+// The first span of a date that ends after t.
+pub fn day_span_after(
+    book: &[u8],
+    first: u32,
+    ats: &[u64],
+    offsets: &[u32],
+    rules: &[u32],
+    d: Day,
+    t: Instant,
+) -> Spanned
+    requires { ⌜ Valid first (now ats) (now offsets) × AllListed 3 (now book) (now rules) ⌝ }
+    ensures { λ r. ⌜ (held (now (book .entry)) r
+        ≡ after (t .0) (spans (venueBy (zoneOf first (now (ats .entry)) (now (offsets .entry))) (Governing·governing (map (ruleAt (now (book .entry))) (now (rules .entry))))) (d .0)))
+        × Placed (now (book .entry)) r ⌝ }
+{
+    match governing(book, rules, d) {
+        Governed::Nothing => Spanned::Missing,
+        Governed::By(rule) => span_after(book, first, ats, offsets, rule, d, t),
+    }
+}
+
+// A span, if it has begun at t.
+fn begun(s: Spanned, t: Instant) -> Spanned
+    ensures { λ r. ⌜ r ≡ Meaning·begun s (t .0) ⌝ }
+{
+    match s {
+        Spanned::Missing => Spanned::Missing,
+        Spanned::Whole(g) => {
+            let start = g.start;
+            let at = start.at;
+            if at.0 <= t.0 {
+                Spanned::Whole(g)
+            } else {
+                Spanned::Missing
+            }
+        }
+    }
+}
+
+// The span of a date that holds t.
+fn day_holding(
+    book: &[u8],
+    first: u32,
+    ats: &[u64],
+    offsets: &[u32],
+    rules: &[u32],
+    d: Day,
+    t: Instant,
+) -> Spanned
+    requires { ⌜ Valid first (now ats) (now offsets) × AllListed 3 (now book) (now rules) ⌝ }
+    ensures { λ r. ⌜ (held (now (book .entry)) r
+        ≡ look (λ (h : Held). h) (spans (venueBy (zoneOf first (now (ats .entry)) (now (offsets .entry))) (Governing·governing (map (ruleAt (now (book .entry))) (now (rules .entry))))) (d .0)) (t .0))
+        × Placed (now (book .entry)) r ⌝ }
+{
+    begun(day_span_after(book, first, ats, offsets, rules, d, t), t)
+}
+
+fn day_before(d: Day) -> Day
+    ensures { λ r. ⌜ r .0 ≡ d .0 - 1 ⌝ }
+{
+    let day = d.0;
+    if day == 0 {
+        return Day(0);
+    }
+    Day(day - 1)
+}
+
+// The first span that holds t, of yesterday, today and tomorrow; outside coverage none.
+pub fn point(
+    book: &[u8],
+    start: Instant,
+    end: Instant,
+    first: u32,
+    ats: &[u64],
+    offsets: &[u32],
+    rules: &[u32],
+    t: Instant,
+) -> Spanned
+    requires { ⌜ Valid first (now ats) (now offsets) × AllListed 3 (now book) (now rules) ⌝ }
+    ensures { λ r. ⌜ (held (now (book .entry)) r
+        ≡ pointAt (λ (h : Held). h) (venueBy (zoneOf first (now (ats .entry)) (now (offsets .entry))) (Governing·governing (map (ruleAt (now (book .entry))) (now (rules .entry))))) (record { start = start .0; end = end .0 }) (t .0))
+        × Placed (now (book .entry)) r ⌝ }
+{
+    if t.0 < start.0 {
+        return Spanned::Missing;
+    }
+    if end.0 <= t.0 {
+        return Spanned::Missing;
+    }
+    let today = day_at(first, ats, offsets, t);
+    let yesterday = day_before(today);
+    let tomorrow = Day(today.0 + 1);
+    match day_holding(book, first, ats, offsets, rules, yesterday, t) {
+        Spanned::Whole(g) => Spanned::Whole(g),
+        Spanned::Missing => match day_holding(book, first, ats, offsets, rules, today, t) {
+            Spanned::Whole(g) => Spanned::Whole(g),
+            Spanned::Missing => day_holding(book, first, ats, offsets, rules, tomorrow, t),
+        },
+    }
+}

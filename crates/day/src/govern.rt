@@ -1,0 +1,96 @@
+// Which rule governs a date.
+ghost use mathlib.Core.Path.{_≡_};
+ghost use mathlib.Core.List.{map};
+ghost use Prim.Native.Nat.{_≤_};
+ghost use Rattle.records.specs.Records.{ruleAt};
+ghost use Rattle.venue.specs.Reading.{Listed};
+ghost use Rattle.day.specs.Governing.{precedence as Governing·precedence, marked as Governing·marked, applies as Governing·applies, takes as Governing·takes, governing as Governing·governing};
+ghost use Rattle.day.specs.Meaning.{AllListed, Stands, ruled};
+use crate::Governed;
+use calendar::Day;
+use calendar::weekday;
+use venue::rule_code;
+use venue::rule_first;
+use venue::rule_last;
+use venue::rule_mask;
+
+// Weekly 10, announced 20, holiday and shortened 30.
+fn precedence(code: u8) -> u8
+    ensures { λ r. ⌜ r ≡ Governing·precedence code ⌝ }
+{
+    match code {
+        0 => 10,
+        3 => 20,
+        _ => 30,
+    }
+}
+
+// Whether a mask has the bit of a weekday.
+fn marked(mask: u8, weekday: u8) -> bool
+    requires { ⌜ (mask ≤ 127) × (weekday ≤ 6) ⌝ }
+    ensures { λ r. ⌜ r ≡ Governing·marked mask weekday ⌝ }
+{
+    match weekday {
+        0 => mask % 2 == 1,
+        1 => mask / 2 % 2 == 1,
+        2 => mask / 4 % 2 == 1,
+        3 => mask / 8 % 2 == 1,
+        4 => mask / 16 % 2 == 1,
+        5 => mask / 32 % 2 == 1,
+        _ => mask / 64 % 2 == 1,
+    }
+}
+
+fn applies(book: &[u8], at: usize, d: Day) -> bool
+    requires { ⌜ Listed 3 (now book) at ⌝ }
+    ensures { λ r. ⌜ r ≡ Governing·applies (ruleAt (now (book .entry)) at) (d .0) ⌝ }
+{
+    if d.0 < rule_first(book, at).0 {
+        return false;
+    }
+    if rule_last(book, at).0 < d.0 {
+        return false;
+    }
+    if rule_code(book, at) != 0 {
+        return true;
+    }
+    marked(rule_mask(book, at), weekday(d) as u8)
+}
+
+// Whether a rule takes the place of the best so far.
+fn takes(book: &[u8], best: Governed, at: usize, d: Day) -> bool
+    requires { ⌜ Listed 3 (now book) at × Stands (now book) best ⌝ }
+    ensures { λ r. ⌜ r ≡ Governing·takes (ruled (now (book .entry)) best) (ruleAt (now (book .entry)) at) (d .0) ⌝ }
+{
+    if !applies(book, at, d) {
+        return false;
+    }
+    match best {
+        Governed::Nothing => true,
+        Governed::By(b) => {
+            let old = precedence(rule_code(book, b as usize));
+            let new = precedence(rule_code(book, at));
+            if old < new {
+                return true;
+            }
+            (old == new) & (rule_first(book, b as usize).0 <= rule_first(book, at).0)
+        }
+    }
+}
+
+// The rule that governs a date, of those that stand at the places given.
+pub fn governing(book: &[u8], rules: &[u32], d: Day) -> Governed
+    requires { ⌜ AllListed 3 (now book) (now rules) ⌝ }
+    ensures { λ r. ⌜ (ruled (now (book .entry)) r ≡ Governing·governing (map (ruleAt (now (book .entry))) (now (rules .entry))) (d .0)) × Stands (now (book .entry)) r ⌝ }
+{
+    let mut best = Governed::Nothing;
+    let mut i: usize = 0;
+    while i < rules.len() {
+        let at = rules[i];
+        if takes(book, best, at as usize, d) {
+            best = Governed::By(at);
+        }
+        i += 1;
+    }
+    best
+}

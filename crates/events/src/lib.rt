@@ -1,0 +1,26 @@
+// The events of a span, in order, one after the other.
+mod seek;
+
+pub use seek::search_events;
+use zone::Boundary;
+
+pub struct Occurrence {
+    pub code: u16,
+    pub boundary: Boundary,
+    pub evidence: u16,
+}
+
+// The next event and its number among those found, if there is one.
+pub enum Best {
+    None,
+    Some(Occurrence, usize),
+}
+
+// A search among the events found: how many were met, and the first of them, by instant and number, from the number `index` at the
+// instant `at` on.
+pub struct Search {
+    pub at: u64,
+    pub index: usize,
+    pub count: usize,
+    pub best: Best,
+}

@@ -1,0 +1,203 @@
+// Events are found by date, listed rule and listed time. They are not stored: each is sought behind the one before it.
+ghost use Prim.Native.Nat.{_+_, _*_, _^_, _≤_, _<_};
+ghost use mathlib.Core.Path.{_≡_};
+ghost use mathlib.Core.List.{map};
+ghost use lib.ListN.{length};
+ghost use Rattle.zone.specs.Zone.{zoneOf};
+ghost use Rattle.zone.specs.Answers.{Valid};
+ghost use Rattle.records.specs.Records.{eventAt};
+ghost use Rattle.venue.specs.Reading.{Listed};
+ghost use Rattle.events.specs.Happenings.{occurrence as Happenings·occurrence, happens as Happenings·happens, onTimes, onDate, found};
+ghost use Rattle.events.specs.Seeking.{met as Seeking·met, sought, begin, better as Seeking·better};
+ghost use Rattle.events.specs.Requires.{AllListed};
+use crate::Best;
+use crate::Occurrence;
+use crate::Search;
+use calendar::Day;
+use venue::event_code;
+use venue::event_evidence;
+use venue::event_first;
+use venue::event_last;
+use venue::event_time;
+use venue::event_times;
+use venue::event_uncertainty;
+use zone::Instant;
+use zone::day_at;
+use zone::to_utc_at;
+
+fn occurrence(
+    book: &[u8],
+    first: u32,
+    ats: &[u64],
+    offsets: &[u32],
+    event: usize,
+    d: Day,
+    time: u64,
+) -> Occurrence
+    requires { ⌜ Valid first (now ats) (now offsets) × Listed 4 (now book) event ⌝ }
+    ensures { λ r. ⌜ r ≡ Happenings·occurrence (zoneOf first (now (ats .entry)) (now (offsets .entry))) (d .0) (eventAt (now (book .entry)) event) time ⌝ }
+{
+    let boundary = to_utc_at(first, ats, offsets, d, time, event_uncertainty(book, event));
+    Occurrence {
+        code: event_code(book, event),
+        boundary,
+        evidence: event_evidence(book, event),
+    }
+}
+
+fn happens(from: Instant, to: Instant, o: Occurrence) -> bool
+    ensures { λ r. ⌜ r ≡ Happenings·happens (from .0) (to .0) o ⌝ }
+{
+    let boundary = o.boundary;
+    let at = boundary.at;
+    (from.0 <= at.0) & (at.0 < to.0)
+}
+
+fn better(best: Best, o: Occurrence) -> bool
+    ensures { λ r. ⌜ r ≡ Seeking·better best o ⌝ }
+{
+    match best {
+        Best::None => true,
+        Best::Some(b, _) => {
+            let here = o.boundary;
+            let there = b.boundary;
+            let a = here.at;
+            let b = there.at;
+            a.0 < b.0
+        }
+    }
+}
+
+// One more found.
+fn met(s: Search, o: Occurrence) -> Search
+    requires { ⌜ s .count < 18446744073709551615 ⌝ }
+    ensures { λ r. ⌜ r ≡ Seeking·met s o ⌝ }
+{
+    let boundary = o.boundary;
+    let at = boundary.at;
+    let old = s.best;
+    let here = (s.at < at.0) | ((s.at == at.0) & (s.index <= s.count));
+    let best = if here & better(old, o) {
+        Best::Some(o, s.count)
+    } else {
+        old
+    };
+    Search {
+        at: s.at,
+        index: s.index,
+        count: s.count + 1,
+        best,
+    }
+}
+
+// The listed times of an event, on a date.
+fn on_times(
+    book: &[u8],
+    first: u32,
+    ats: &[u64],
+    offsets: &[u32],
+    event: usize,
+    d: Day,
+    from: Instant,
+    to: Instant,
+    s: Search,
+) -> Search
+    requires { ⌜ Valid first (now ats) (now offsets) × Listed 4 (now book) event × (s .count ≤ 2 ^ 62) ⌝ }
+    ensures { λ r.
+        ⌜ (r ≡ sought s (onTimes (zoneOf first (now (ats .entry)) (now (offsets .entry))) (from .0) (to .0) (d .0) (eventAt (now (book .entry)) event) (eventAt (now (book .entry)) event .times)))
+        × (r .count ≤ s .count + 8) ⌝ }
+{
+    let times = event_times(book, event);
+    let mut so_far = s;
+    let mut i: usize = 0;
+    while i < times {
+        let o = occurrence(
+            book,
+            first,
+            ats,
+            offsets,
+            event,
+            d,
+            event_time(book, event, i),
+        );
+        if happens(from, to, o) {
+            so_far = met(so_far, o);
+        }
+        i += 1;
+    }
+    so_far
+}
+
+// The listed events that have the date among their days.
+fn on_date(
+    book: &[u8],
+    first: u32,
+    ats: &[u64],
+    offsets: &[u32],
+    events: &[u32],
+    d: Day,
+    from: Instant,
+    to: Instant,
+    s: Search,
+) -> Search
+    requires { ⌜ Valid first (now ats) (now offsets) × AllListed (now book) (now events) × (length (now events) ≤ 32) × (s .count ≤ 2 ^ 61) ⌝ }
+    ensures { λ r.
+        ⌜ (r ≡ sought s (onDate (zoneOf first (now (ats .entry)) (now (offsets .entry))) (from .0) (to .0) (d .0) (map (eventAt (now (book .entry))) (now (events .entry)))))
+        × (r .count ≤ s .count + 256) ⌝ }
+{
+    let mut so_far = s;
+    let mut i: usize = 0;
+    while i < events.len() {
+        let event = events[i] as usize;
+        if (event_first(book, event).0 <= d.0) & (d.0 <= event_last(book, event).0) {
+            so_far = on_times(book, first, ats, offsets, event, d, from, to, so_far);
+        }
+        i += 1;
+    }
+    so_far
+}
+
+// The events of the span from `from` to before `to`: how many there are, and the first of them, by instant and number, from the
+// number `index` at the instant `at` on.
+pub fn search_events(
+    book: &[u8],
+    first: u32,
+    ats: &[u64],
+    offsets: &[u32],
+    events: &[u32],
+    from: Instant,
+    to: Instant,
+    at: u64,
+    index: usize,
+) -> Search
+    requires { ⌜ Valid first (now ats) (now offsets) × AllListed (now book) (now events) × (length (now events) ≤ 32) ⌝ }
+    ensures { λ r.
+        ⌜ (r ≡ sought (begin at index) (found (zoneOf first (now (ats .entry)) (now (offsets .entry))) (map (eventAt (now (book .entry))) (now (events .entry))) (from .0) (to .0)))
+        × (r .count ≤ 256 * 2 ^ 32) ⌝ }
+{
+    let begins = day_at(first, ats, offsets, from);
+    let ends = day_at(first, ats, offsets, to);
+    let none = Search {
+        at,
+        index,
+        count: 0,
+        best: Best::None,
+    };
+    let mut so_far = on_date(book, first, ats, offsets, events, begins, from, to, none);
+    let mut date = begins.0;
+    while date < ends.0 {
+        date += 1;
+        so_far = on_date(
+            book,
+            first,
+            ats,
+            offsets,
+            events,
+            Day(date),
+            from,
+            to,
+            so_far,
+        );
+    }
+    so_far
+}

@@ -1,0 +1,4 @@
+pub mod Spans
+pub mod Timeline
+pub mod Totals
+pub mod Examples
