@@ -193,7 +193,3 @@ module _ (v : Venue Held) (c : Part) (t : ℕ) where
       pub by-third : none ≡ on d → (o : Option Held) → o ≡ on (suc d) → o ≡ pointAt (λ (h : Held). h) v c t
       by-third m o e =
           e ∙ ap (λ (x : Option Held). orElse x (on (suc d))) m ∙ ap (λ (x : Option Held). orElse x (orElse (on d) (on (suc d)))) n ∙ three
-
--- ---- dates are small
-pub date-small : (first : ℕ) (ats os : List ℕ) (t : ℕ) → Valid first ats os → dateAt (zoneOf first ats os) t < 2 ^ 31
-date-small first ats os t v = omega (arith, offset-most first ats os (nearestInstant t) v)

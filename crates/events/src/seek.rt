@@ -173,7 +173,7 @@ pub fn search_events(
     requires { ⌜ Valid first (now ats) (now offsets) × AllListed (now book) (now events) × (length (now events) ≤ 32) ⌝ }
     ensures { λ r.
         ⌜ (r ≡ sought (begin at index) (found (zoneOf first (now (ats .entry)) (now (offsets .entry))) (map (eventAt (now (book .entry))) (now (events .entry))) (from .0) (to .0)))
-        × (r .count ≤ 256 * 2 ^ 32) ⌝ }
+        × (r .count ≤ 2 ^ 25) ⌝ }
 {
     let begins = day_at(first, ats, offsets, from);
     let ends = day_at(first, ats, offsets, to);

@@ -2,7 +2,7 @@
 use mathlib.Core.Path.{_≡_, refl, sym, ap, _∙_}
 use mathlib.Core.List.{List}
 use mathlib.Core.Option.{none, some}
-use Prim.Native.Nat.{ℕ, _+_, _-_, _*_, _≤_, _<_}
+use Prim.Native.Nat.{ℕ, _+_, _-_, _*_, _^_, _≤_, _<_}
 use native.Mathlib.Nat.{mod-eq-of-lt}
 use native.Mathlib.Omega.{arith}
 use lib.Dec.{lit≤}
@@ -12,10 +12,11 @@ use Rattle.wire.specs.Signs.{meant}
 use Rattle.wire.proofs.Signs.{origin, counted, counted-once, between-yes, between-low, between-high, between-found}
 use Rattle.calendar.specs.Answers.{lastDay, zeroDay}
 use Rattle.zone.specs.Units.{dayNs, mostNs, offsetNs, instantNumber, firstInstant, lastInstant, firstReading, lastReading, nearestInstant, nearestReading, readingDay, readingTime, readingAt}
-use Rattle.zone.specs.Zone.{Zone, zoneOf, offsetAt, Reads, readingOf, resolve}
+use Rattle.zone.specs.Zone.{Zone, zoneOf, offsetAt, Reads, readingOf, dateAt, resolve}
 use Rattle.zone.specs.Answers.{Valid, within, timed, placedNumber, taken}
 use Rattle.zone.specs.declared.number.Timed.{Timed}
 use Rattle.zone.specs.declared.number.Timed.the-variants.{At, Outside}
+use Rattle.zone.proofs.Offsets.{offset-most}
 use Rattle.zone.proofs.Readings.{Among, among, taken-near}
 
 -- ---- instants and their numbers
@@ -93,3 +94,7 @@ module _ (first : ℕ) (ats os : List ℕ) (ok : Valid first ats os) where
       let h : (firstReading ≤ nearestReading x) × (nearestReading x ≤ lastReading) = omega arith in
       let n = taken-near first ats os ok (nearestReading x) (omega arith) in
       omega (arith, h, n)
+
+-- dates are small
+pub date-small : (first : ℕ) (ats os : List ℕ) (t : ℕ) → Valid first ats os → dateAt (zoneOf first ats os) t < 2 ^ 17
+date-small first ats os t v = omega (arith, offset-most first ats os (nearestInstant t) v)

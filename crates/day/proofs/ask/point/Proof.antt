@@ -1,4 +1,5 @@
-use Rattle.day.proofs.Points.{point-before, point-behind, by-first, by-second, by-third, date-small}
+use Rattle.zone.proofs.Domain.{date-small}
+use Rattle.day.proofs.Points.{point-before, point-behind, by-first, by-second, by-third}
 use Rattle.day.specs.Meaning.{held, Placed}
 use Rattle.day.specs.Days.{Held, venueBy}
 use Rattle.day.specs.Governing.{governing}

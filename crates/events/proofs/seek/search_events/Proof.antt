@@ -1,3 +1,4 @@
+use Rattle.zone.proofs.Domain.{date-small}
 use Rattle.events.proofs.Finding.{Spanning, dates-start, date-one, dates-few, dates-end}
 use Rattle.events.specs.Seeking.{begin}
 use Rattle.zone.specs.Zone.{zoneOf}
@@ -48,9 +49,10 @@ returns : tie.Need-returns Inv-loop μ-loop
 returns c =
     let at-loop = c .before .before in
     let at-day-at2 = at-loop .before .before in
-    let at-day-at = at-day-at2 .before in (
+    let at-day-at = at-day-at2 .before in
+    let at-start = at-day-at .before .before .before .before .before in (
       dates-end _ _ _ _ _ _ (at-loop .loop .inv) (c .if1 .left) (at-day-at .day-at .ensures) (at-day-at2 .day-at2 .ensures),
-      omega (arith, dates-few _ _ _ _ _ _ (at-loop .loop .inv), c .before .struct-known .given),
+      omega (arith, dates-few _ _ _ _ _ _ (at-loop .loop .inv), at-day-at2 .day-at2 .ensures, date-small _ _ _ (at-start .args .to .0) (at-start .pre .0)),
     )
 
 pub search-events-spec : {M : Type 1} → statement M

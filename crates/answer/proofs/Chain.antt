@@ -1,0 +1,100 @@
+-- One writer after another, from the last backwards, and the bits of an instant's number. Assumes nothing.
+use mathlib.Core.Path.{_≡_, refl, ap}
+use mathlib.Core.Bool.{Bool, true, false}
+use mathlib.Core.List.{List, _++_, append-assoc, append-nil}
+use mathlib.Core.Option.{Option, none, some}
+use Prim.Native.Nat.{ℕ, _+_, _-_, _*_, _%_, _^_, _<_}
+use native.Mathlib.Omega.{arith}
+use borrow.Author.Tests.{ltb-true, ltb-false}
+use lib.Dec.{ltb}
+use lib.IntN.{ℤ}
+use lib.ListN.{length, take, drop, length-append, length-take, length-drop}
+use mir.Syntax.{w64}
+use mir.Val.{ofZ}
+use Rattle.wire.specs.Fields.{Inside, Put, bytes, wrote, Field, laid}
+use Rattle.wire.proofs.Writing.{also}
+use Rattle.calendar.specs.Answers.{zeroDay}
+use Rattle.zone.specs.Units.{dayNs, instantNumber}
+use Rattle.zone.specs.Answers.{Values}
+use Rattle.records.specs.Layout.{Place, kind}
+use Rattle.answer.specs.Forms.{Side, Cover, Phase, Event, Missing, Gap, phase, unknown, event, point, end, missingAt, coverFields, encode}
+
+-- ---- one writer after another
+
+-- a writer that wrote something and kept the length wrote inside the room
+pub inside : {a b v : List ℕ} {p q n : ℕ} → 0 < n → Put a p v n b q → Inside p n a
+unfolding wrote
+inside {a} {b} {v} {p} {q} {n} h x =
+    let whole = length-append (take p a ++ v) (drop (p + length v) a) in
+    let first = length-append (take p a) v in
+    let before = length-take p a in
+    let behind = length-drop (p + length v) a in
+    let same = ap length (x .same) in
+    omega (arith, x .many, x .kept)
+
+-- so two in a row need no more than what they left
+pub after : {a b c v w : List ℕ} {p q r n m : ℕ} → Put a p v n b q → Put b q w m c r → ltb 0 m ≡ true → Put a p (v ++ w) (n + m) c r
+after {n = n} {m = m} x y h = let i = inside (ltb-true 0 m h) y in also (n + m) x y refl (omega (arith, x .behind, x .kept))
+
+-- ---- an instant's number
+
+pub bits-number : (t : ℕ) → t < 2 ^ 64 → (t + (2 ^ 64 - zeroDay * dayNs)) % 2 ^ 64 ≡ ofZ w64 (instantNumber t)
+bits-number t h = go (ltb t (zeroDay * dayNs)) refl
+  where
+    go : (b : Bool) → ltb t (zeroDay * dayNs) ≡ b → (t + (2 ^ 64 - zeroDay * dayNs)) % 2 ^ 64 ≡ ofZ w64 (instantNumber t)
+    go true e = let l = ltb-true t (zeroDay * dayNs) e in simp e (omega arith)
+    go false e = let l = ltb-false t (zeroDay * dayNs) e in simp e (omega arith)
+
+-- ---- a record's bytes, as the writers write them
+
+abbrev pub signed8 : ℤ → List ℕ
+signed8 z = bytes 8 (ofZ w64 z)
+
+abbrev pub head : ℕ → ℕ → List ℕ
+head length kind = bytes 2 length ++ bytes 2 kind
+
+abbrev pub doubt : Values → List ℕ
+doubt u = bytes 1 (u .tag) ++ (signed8 (u .one) ++ (signed8 (u .two) ++ bytes 2 (u .text)))
+
+abbrev pub side : Side → List ℕ
+side s = signed8 (s .at) ++ doubt (s .uncertainty)
+
+pub phase-bytes : (p : Phase)
+    → encode (phase p)
+    ≡ head 103 16
+    ++ ((signed8 (p .start) ++ signed8 (p .end))
+    ++ ((bytes 1 (p .phase) ++ (bytes 1 (p .code) ++ (bytes 2 (p .label) ++ (bytes 2 (p .evidence) ++ bytes 2 (p .derived)))))
+    ++ (side (p .from) ++ (side (p .to) ++ (doubt (p .whole) ++ bytes 4 (p .events))))))
+unfolding encode laid
+phase-bytes p = simp (append-assoc, append-nil)
+
+pub event-bytes : (e : Event)
+    → encode (event e)
+    ≡ head 33 18 ++ (bytes 2 (e .code) ++ ((signed8 (e .at) ++ doubt (e .uncertainty)) ++ bytes 2 (e .evidence)))
+unfolding encode laid
+event-bytes e = simp (append-assoc, append-nil)
+
+-- coverage has the same bytes wherever it stands
+cover-place : (p q : Place) (c : Option Cover) → coverFields p c ≡ coverFields q c
+cover-place p q none = refl
+cover-place p q (some c) = refl
+
+pub gap-bytes : (g : Gap) → encode (unknown g) ≡ head 35 17 ++ ((signed8 (g .start) ++ signed8 (g .end)) ++ laid (coverFields kind (g .coverage)))
+unfolding encode laid
+gap-bytes g =
+    simp append-assoc
+    (ap (λ (c : List Field). bytes 2 35 ++ (bytes 2 17 ++ (signed8 (g .start) ++ (signed8 (g .end) ++ laid c)))) (cover-place end kind (g .coverage)))
+
+pub missing-bytes : (m : Missing) → encode (point m) ≡ head 27 19 ++ (signed8 (m .at) ++ laid (coverFields kind (m .coverage)))
+unfolding encode laid
+missing-bytes m =
+    simp append-assoc
+    (ap (λ (c : List Field). bytes 2 27 ++ (bytes 2 19 ++ (signed8 (m .at) ++ laid c))) (cover-place missingAt kind (m .coverage)))
+
+pub nothing-bytes : bytes 1 0 ++ (bytes 8 0 ++ bytes 8 0) ≡ laid (coverFields kind none)
+unfolding laid
+nothing-bytes = simp append-nil
+
+pub between-bytes : (s e : ℤ) → bytes 1 1 ++ (signed8 s ++ signed8 e) ≡ laid (coverFields kind (some (record { start = s; end = e })))
+unfolding laid
+between-bytes s e = simp append-nil

@@ -1,0 +1,37 @@
+use mathlib.Core.Path.{refl}
+use borrow.Author.Needs.{needs}
+use Rattle.answer.proofs.put.taken_apart.Statement.{statement}
+use Rattle.answer.proofs.put.taken_apart.Tie as tie
+
+returns-5 : tie.Need-returns-5
+returns-5 c =
+    let at-bits = c .before in
+    let at-u4 = at-bits .before .before in
+    rw (at-u4 .u4 .given .1) (refl, at-bits .bits .ensures, c .bits2 .ensures, refl)
+
+returns-6 : tie.Need-returns-6
+returns-6 c =
+    let at-bits3 = c .before in
+    let at-u5 = at-bits3 .before .before in
+    rw (at-u5 .u5 .given .1) (refl, at-bits3 .bits3 .ensures, c .bits4 .ensures, refl)
+
+pub taken-apart-spec : {M : Type 1} → statement M
+taken-apart-spec =
+    tie.close
+    (tie.spec
+    (λ c. search needs)
+    (λ c. search needs)
+    (λ c. search needs)
+    (λ c. search needs)
+    (λ c. search needs)
+    (λ c κs. search needs)
+    (λ c κs. search needs)
+    (λ c. search needs)
+    (λ c κs. search needs)
+    (λ c κs. search needs)
+    (λ c. search needs)
+    (λ c. search needs)
+    (λ c. search needs)
+    (λ c. search needs)
+    returns-5
+    returns-6)

@@ -1,0 +1,212 @@
+// One writer for each record. Each answers the place behind what it wrote.
+ghost use mathlib.Core.Path.{_≡_};
+ghost use mathlib.Core.List.{_++_};
+ghost use mir.Syntax.{w64};
+ghost use mir.Val.{ofZ};
+ghost use Rattle.wire.specs.Fields.{Inside, Put, bytes};
+ghost use Rattle.zone.specs.Units.{instantNumber};
+ghost use Rattle.zone.specs.Answers.{values, uncertaintyBytes};
+ghost use Rattle.answer.specs.Forms.{phase, unknown, event, point, encode};
+ghost use Rattle.answer.specs.Meaning.{phaseOf, eventOf, coverBytes, missingOf, gapOf};
+use crate::Covered;
+use crate::Phase;
+use wire::put1;
+use wire::put2;
+use wire::put4;
+use wire::put8;
+use zone::Boundary;
+use zone::Instant;
+use zone::Uncertainty;
+
+// 2^64 less the nanoseconds from 1899-12-25 to 1970.
+const FROM_1970: u64 = 16_237_150_473_709_551_616;
+
+// The bits of an instant's number.
+fn bits(t: Instant) -> u64
+    ensures { λ r. ⌜ r ≡ ofZ w64 (instantNumber (t .0)) ⌝ }
+{
+    std::num::wrapping_add_u64(t.0, FROM_1970)
+}
+
+fn put_instant(out: &mut [u8], at: usize, t: Instant) -> usize
+    requires { ⌜ Inside at 8 (now out) ⌝ }
+    ensures { λ r. ⌜ Put (now (out .entry)) at (bytes 8 (ofZ w64 (instantNumber (t .0)))) 8 (now (out .exit)) r ⌝ }
+{
+    put8(out, at, bits(t))
+}
+
+fn put_span(out: &mut [u8], at: usize, start: Instant, end: Instant) -> usize
+    requires { ⌜ Inside at 16 (now out) ⌝ }
+    ensures { λ r. ⌜ Put (now (out .entry)) at (bytes 8 (ofZ w64 (instantNumber (start .0))) ++ bytes 8 (ofZ w64 (instantNumber (end .0)))) 16 (now (out .exit)) r ⌝ }
+{
+    let a = put_instant(out, at, start);
+    put_instant(out, a, end)
+}
+
+struct Parts {
+    tag: u8,
+    one: u64,
+    two: u64,
+    text: u16,
+}
+
+// The tag, two numbers and text of an uncertainty.
+fn taken_apart(u: Uncertainty) -> Parts
+    ensures { λ r. ⌜ (r .tag ≡ values u .tag)
+        × (r .one ≡ ofZ w64 (values u .one))
+        × (r .two ≡ ofZ w64 (values u .two))
+        × (r .text ≡ values u .text) ⌝ }
+{
+    match u {
+        Uncertainty::Exact => Parts {
+            tag: 0,
+            one: 0,
+            two: 0,
+            text: 0,
+        },
+        Uncertainty::PublishedGranularity(n) => Parts {
+            tag: 1,
+            one: n,
+            two: 0,
+            text: 0,
+        },
+        Uncertainty::PublishedBound(n, text) => Parts {
+            tag: 2,
+            one: n,
+            two: 0,
+            text,
+        },
+        Uncertainty::ProcessStart(text) => Parts {
+            tag: 3,
+            one: 0,
+            two: 0,
+            text,
+        },
+        Uncertainty::AmbiguousLocalTime(d) => Parts {
+            tag: 4,
+            one: bits(d.before),
+            two: bits(d.after),
+            text: 0,
+        },
+        Uncertainty::NonexistentLocalTime(d) => Parts {
+            tag: 5,
+            one: bits(d.before),
+            two: bits(d.after),
+            text: 0,
+        },
+    }
+}
+
+fn put_uncertainty(out: &mut [u8], at: usize, u: Uncertainty) -> usize
+    requires { ⌜ Inside at 19 (now out) ⌝ }
+    ensures { λ r. ⌜ Put (now (out .entry)) at (uncertaintyBytes u) 19 (now (out .exit)) r ⌝ }
+{
+    let p = taken_apart(u);
+    let a = put1(out, at, p.tag);
+    let b = put8(out, a, p.one);
+    let c = put8(out, b, p.two);
+    put2(out, c, p.text)
+}
+
+fn put_boundary(out: &mut [u8], at: usize, b: Boundary) -> usize
+    requires { ⌜ Inside at 27 (now out) ⌝ }
+    ensures { λ r. ⌜ Put (now (out .entry)) at (bytes 8 (ofZ w64 (instantNumber (b .at .0))) ++ uncertaintyBytes (b .uncertainty)) 27 (now (out .exit)) r ⌝ }
+{
+    let uncertainty = b.uncertainty;
+    let a = put_instant(out, at, b.at);
+    put_uncertainty(out, a, uncertainty)
+}
+
+fn put_head(out: &mut [u8], at: usize, length: u16, kind: u16) -> usize
+    requires { ⌜ Inside at 4 (now out) ⌝ }
+    ensures { λ r. ⌜ Put (now (out .entry)) at (bytes 2 length ++ bytes 2 kind) 4 (now (out .exit)) r ⌝ }
+{
+    let a = put2(out, at, length);
+    put2(out, a, kind)
+}
+
+// A rule's numbers: a point's phase, the rule's code, label, evidence and derived.
+fn put_rule(
+    out: &mut [u8],
+    at: usize,
+    phase: u8,
+    code: u8,
+    label: u16,
+    evidence: u16,
+    derived: u16,
+) -> usize
+    requires { ⌜ Inside at 8 (now out) ⌝ }
+    ensures { λ r. ⌜ Put (now (out .entry)) at (bytes 1 phase ++ (bytes 1 code ++ (bytes 2 label ++ (bytes 2 evidence ++ bytes 2 derived)))) 8 (now (out .exit)) r ⌝ }
+{
+    let a = put1(out, at, phase);
+    let b = put1(out, a, code);
+    let c = put2(out, b, label);
+    let d = put2(out, c, evidence);
+    put2(out, d, derived)
+}
+
+// Kind 16.
+pub fn put_phase(out: &mut [u8], at: usize, p: Phase) -> usize
+    requires { ⌜ Inside at 105 (now out) ⌝ }
+    ensures { λ r. ⌜ Put (now (out .entry)) at (encode (phase (phaseOf p))) 105 (now (out .exit)) r ⌝ }
+{
+    let from = p.from;
+    let to = p.to;
+    let whole = p.whole;
+    let a = put_head(out, at, 103, 16);
+    let b = put_span(out, a, p.start, p.end);
+    let c = put_rule(out, b, p.phase, p.code, p.label, p.evidence, p.derived);
+    let d = put_boundary(out, c, from);
+    let e = put_boundary(out, d, to);
+    let f = put_uncertainty(out, e, whole);
+    put4(out, f, p.events)
+}
+
+// Kind 18.
+pub fn put_event(out: &mut [u8], at: usize, code: u16, b: Boundary, evidence: u16) -> usize
+    requires { ⌜ Inside at 35 (now out) ⌝ }
+    ensures { λ r. ⌜ Put (now (out .entry)) at (encode (event (eventOf code b evidence))) 35 (now (out .exit)) r ⌝ }
+{
+    let c = put_head(out, at, 33, 18);
+    let d = put2(out, c, code);
+    let e = put_boundary(out, d, b);
+    put2(out, e, evidence)
+}
+
+// Whether there is coverage, and from when to when.
+fn put_cover(out: &mut [u8], at: usize, c: Covered) -> usize
+    requires { ⌜ Inside at 17 (now out) ⌝ }
+    ensures { λ r. ⌜ Put (now (out .entry)) at (coverBytes c) 17 (now (out .exit)) r ⌝ }
+{
+    match c {
+        Covered::Nothing => {
+            let a = put1(out, at, 0);
+            let b = put8(out, a, 0);
+            put8(out, b, 0)
+        }
+        Covered::Between(start, end) => {
+            let a = put1(out, at, 1);
+            put_span(out, a, start, end)
+        }
+    }
+}
+
+// Kind 17.
+pub fn put_gap(out: &mut [u8], at: usize, start: Instant, end: Instant, c: Covered) -> usize
+    requires { ⌜ Inside at 37 (now out) ⌝ }
+    ensures { λ r. ⌜ Put (now (out .entry)) at (encode (unknown (gapOf (start .0) (end .0) c))) 37 (now (out .exit)) r ⌝ }
+{
+    let a = put_head(out, at, 35, 17);
+    let b = put_span(out, a, start, end);
+    put_cover(out, b, c)
+}
+
+// Kind 19.
+pub fn put_missing(out: &mut [u8], at: usize, t: Instant, c: Covered) -> usize
+    requires { ⌜ Inside at 29 (now out) ⌝ }
+    ensures { λ r. ⌜ Put (now (out .entry)) at (encode (point (missingOf (t .0) c))) 29 (now (out .exit)) r ⌝ }
+{
+    let a = put_head(out, at, 27, 19);
+    let b = put_instant(out, a, t);
+    put_cover(out, b, c)
+}
