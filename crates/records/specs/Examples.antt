@@ -67,7 +67,7 @@ examples =
     ∷ of (bookA ++ rule (weekly 31 (point 1 0 ∷ [])) ∷ []) 5
     ∷ of (bookA ++ rule (weekly 31 (point 0 0 ∷ point 5 1 ∷ point 5 2 ∷ [])) ∷ []) 6
     ∷ of (bookA ++ rule (weekly 31 (point 1 0 ∷ point 5 1 ∷ point 5 8 ∷ [])) ∷ []) 4
-    -- a weekly rule with a label; bit 7 of a mask
+    -- bit 7 of a mask
     ∷ of (bookA ++ rule (weekly 128 (point 0 0 ∷ [])) ∷ []) 4
     -- an event with no time, at 24:00, with nine times
     ∷ of (bookA ++ happening [] ∷ happening (minutes 1439 ∷ 0 ∷ []) ∷ []) 0

@@ -16,7 +16,7 @@ use Rattle.records.specs.Frame.{Framed}
 use Rattle.records.specs.Book.{kindAt, outside, lateStart, falling, reversed}
 use Rattle.venue.specs.Opening.{instantOf, dayOf}
 
--- a record of kind k of an accepted book stands at p
+-- a good record of kind k stands at p, in no more bytes than a book may have
 pub record Listed (k : ℕ) (s : List ℕ) (p : ℕ) : Type 0 where
   pub small : length s ≤ base .bytes
   pub frame : Framed s p

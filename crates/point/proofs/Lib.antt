@@ -1,0 +1,5 @@
+pub mod Queries
+pub mod Trailing
+pub mod Venues
+pub mod Telling
+pub mod Closing

@@ -1,0 +1,142 @@
+-- Events written one after the other: what is left to write. Assumes nothing.
+use mathlib.Core.Path.{_≡_, refl, sym, ap, ap₂, _∙_}
+use mathlib.Core.Bool.{Bool, true, false, cond, _&&_}
+use mathlib.Core.List.{List, [], _∷_, map}
+use Prim.Native.Nat.{ℕ, zero, suc, _+_, _-_, _*_, _≤_, _<_}
+use native.Mathlib.Omega.{arith}
+use lib.ListN.{length, length-append}
+use Rattle.wire.specs.Fields.{wrote, Put}
+use Rattle.wire.proofs.Writing.{wrote-wrote, wrote-nothing}
+use Rattle.records.proofs.Laid.{laid-length}
+use Rattle.events.specs.Happenings.{byInstant}
+use Rattle.events.specs.Seeking.{fromHere, better, met, sought, begin, inTurn}
+use Rattle.events.specs.declared.Occurrence.{Occurrence}
+use Rattle.events.specs.declared.Best.{Best}
+use Rattle.events.specs.declared.Best.the-variants.{None, Some}
+use Rattle.events.specs.declared.Search.{Search}
+use Rattle.events.proofs.Order.{length-sorted}
+use Rattle.events.proofs.Turns.{sought-count, in-turn}
+use Rattle.answer.specs.Forms.{encode, allFields}
+use Rattle.point.specs.Asking.{eventForm, encodeAll}
+
+-- ---- lengths
+
+pub event-length : (o : Occurrence) → length (encode (eventForm o)) ≡ 35
+unfolding encode
+event-length o = laid-length (allFields (eventForm o))
+
+pub events-length : (os : List Occurrence) → length (encodeAll (map eventForm os)) ≡ 35 * length os
+unfolding encodeAll
+events-length [] = refl
+events-length (o ∷ os) =
+    let l = length-append (encode (eventForm o)) (encodeAll (map eventForm os)) in
+    omega (arith, event-length o, events-length os)
+
+-- ---- the number of the best is below the count
+
+abbrev pub Below : Best → ℕ → Type 0
+Below None n = Unit {0}
+Below (Some o i) n = i < n
+
+below-more : (b : Best) (n : ℕ) → Below b n → Below b (n + 1)
+below-more None n h = tt
+below-more (Some o i) n h = omega arith
+
+below-met : (q : Bool) (b : Best) (o : Occurrence) (n : ℕ) → Below b n → Below (cond q (Some o n) b) (n + 1)
+below-met true b o n h = omega arith
+below-met false b o n h = below-more b n h
+
+below-sought : (s : Search) (os : List Occurrence) → Below (s .best) (s .count) → Below (sought s os .best) (sought s os .count)
+unfolding sought
+below-sought s [] h = h
+below-sought s (o ∷ os) h = below-sought (met s o) os (below-met (fromHere (s .at) (s .index) o (s .count) && better (s .best) o) (s .best) o (s .count) h)
+
+pub below-begun : (at index : ℕ) (os : List Occurrence) → Below (sought (begin at index) os .best) (length os)
+below-begun at index os = go (sought (begin at index) os .best) (below-sought (begin at index) os tt)
+  where
+    c : sought (begin at index) os .count ≡ length os
+    c = let e = sought-count (begin at index) os in omega arith
+
+    go : (b : Best) → Below b (sought (begin at index) os .count) → Below b (length os)
+    go None h = tt
+    go (Some o i) h = omega (arith, c)
+
+-- ---- what is left
+
+module _ (os : List Occurrence) (room : List ℕ) (at : ℕ) where
+  pub record Trailing (now : List ℕ) (place i : ℕ) (best : Best) : Type 0 where
+    pub few : i ≤ length os
+    pub below : Below best (length os)
+    pub same : wrote room at (encodeAll (map eventForm (byInstant os))) ≡ wrote now place (encodeAll (map eventForm (inTurn os (length os - i) best)))
+    pub fits : place + length (encodeAll (map eventForm (inTurn os (length os - i) best))) ≤ length now
+    pub kept : length now ≡ length room
+
+  pub trail-start : at + 35 * length os ≤ length room → {best : Best} → best ≡ sought (begin 0 0) os .best → Trailing room at 0 best
+  trail-start h e =
+      let z : length os - 0 ≡ length os = omega arith in
+      let t = in-turn os in
+      let q : inTurn os (length os - 0) _ ≡ byInstant os = ap₂ (inTurn os) z e ∙ t in
+      record {
+        few = omega arith;
+        below = rw e (below-begun 0 0 os);
+        same = ap (λ (l : List Occurrence). wrote room at (encodeAll (map eventForm l))) (sym q);
+        fits = rw q (omega (arith, events-length (byInstant os), length-sorted os));
+        kept = refl;
+      }
+
+  module _ {now : List ℕ} {place i : ℕ} {best : Best} (w : Trailing now place i best) where
+    -- nothing is left
+    over : inTurn os (length os - i) best ≡ [] → now ≡ wrote room at (encodeAll (map eventForm (byInstant os)))
+    unfolding encodeAll
+    over e = sym (w .same ∙ ap (λ (l : List Occurrence). wrote now place (encodeAll (map eventForm l))) e ∙ wrote-nothing now place)
+
+    pub trail-end : length os ≤ i → now ≡ wrote room at (encodeAll (map eventForm (byInstant os)))
+    unfolding inTurn
+    trail-end h = let z : length os - i ≡ 0 = omega arith in over (ap (λ (n : ℕ). inTurn os n best) z)
+
+    pub trail-none : best ≡ None → now ≡ wrote room at (encodeAll (map eventForm (byInstant os)))
+    unfolding inTurn
+    trail-none e = over (ap (inTurn os (length os - i)) e ∙ go (length os - i))
+      where
+        go : (n : ℕ) → inTurn os n None ≡ []
+        go zero = refl
+        go (suc n) = refl
+
+    module _ (h : i < length os) (o : Occurrence) (index : ℕ) (e : best ≡ Some o index) where
+      abbrev next : Best
+      next = sought (begin (o .boundary .at .0) (index + 1)) os .best
+
+      turn : inTurn os (length os - i) best ≡ o ∷ inTurn os (length os - (i + 1)) next
+      unfolding inTurn
+      turn = let k : length os - i ≡ suc (length os - (i + 1)) = omega arith in ap₂ (inTurn os) k e
+
+      pub trail-index : index < length os
+      trail-index = rw e at (w .below)
+
+      pub trail-room : place + 35 ≤ length now
+      unfolding encodeAll
+      trail-room =
+          let l = ap (λ (x : List Occurrence). length (encodeAll (map eventForm x))) turn in
+          let m = length-append (encode (eventForm o)) (encodeAll (map eventForm (inTurn os (length os - (i + 1)) next))) in
+          omega (arith, w .fits, event-length o)
+
+      pub trail-one : {now′ : List ℕ} {place′ : ℕ} {best′ : Best} → Put now place (encode (eventForm o)) 35 now′ place′ → best′ ≡ next → Trailing now′ place′ (i + 1) best′
+      unfolding encodeAll
+      trail-one {now′} {place′} {best′} p b =
+          let rest = encodeAll (map eventForm (inTurn os (length os - (i + 1)) next)) in
+          let l = ap (λ (x : List Occurrence). length (encodeAll (map eventForm x))) turn in
+          let m = length-append (encode (eventForm o)) rest in
+          let f = w .fits in
+          let k = event-length o in
+          let q = p .behind in
+          let v = p .kept in
+          rw b
+          (record {
+            few = omega arith;
+            below = below-begun (o .boundary .at .0) (index + 1) os;
+            same =
+                w .same ∙ ap (λ (x : List Occurrence). wrote now place (encodeAll (map eventForm x))) turn
+                ∙ sym (ap (λ (x : List ℕ). wrote x place′ rest) (p .same) ∙ wrote-wrote now place place′ (encode (eventForm o)) rest (omega arith) (omega arith));
+            fits = omega arith;
+            kept = omega (arith, w .kept);
+          })
