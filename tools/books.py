@@ -2,8 +2,8 @@
 """books.py: makes the list of books that the program vectors_book judges, each with the number that it must get.
 
 The number is said twice and must be the same, else this stops: by whoever makes the case, from what is wrong with it, and by `judge`
-below, written from document 01 alone. Random bytes and random damage have `judge`'s number only. It is needed to make the list, not to run
-the tests. Run it in the repository's root: python3 tools/books.py
+below, written from document 01 alone. Where a case is made by a rule or at random (2,290 of the 5,454) it has `judge`'s number only. It is
+needed to make the list, not to run the tests. Run it in the repository's root: python3 tools/books.py
 """
 import collections
 import itertools
