@@ -3,3 +3,4 @@ pub mod Trailing
 pub mod Venues
 pub mod Telling
 pub mod Closing
+pub mod Once
