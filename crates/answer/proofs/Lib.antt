@@ -1,3 +1,5 @@
 pub mod Chain
 pub mod Readback
 pub mod Used
+pub mod Several
+pub mod Once

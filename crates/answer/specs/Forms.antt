@@ -1,6 +1,6 @@
 -- Answers as values, and their bytes: document 01, "Answer forms". Every field stands behind the one before it and is said once. Assumes nothing.
 use Prim.Native.Nat.{ℕ}
-use mathlib.Core.List.{List, [], _∷_, map}
+use mathlib.Core.List.{List, [], _∷_, _++_, map}
 use mathlib.Core.Option.{Option, none, some}
 use lib.IntN.{ℤ, pos}
 use mir.Syntax.{w64}
@@ -200,3 +200,8 @@ allFields f = put size (lengthOf f) ∷ put kind (kindOf f) ∷ fieldsOf f
 
 unfoldable pub encode : Form → List ℕ
 encode f = laid (allFields f)
+
+-- records one behind the other
+unfoldable pub encodeAll : List Form → List ℕ
+encodeAll [] = []
+encodeAll (f ∷ fs) = encode f ++ encodeAll fs
