@@ -13,9 +13,9 @@ use lib.Seq.{drop-cons, drop-length}
 use Rattle.calendar.specs.Answers.{weekdayOf}
 use Rattle.records.specs.Records.{Rule, ruleAt}
 use Rattle.venue.specs.Opening.{dayOf}
-use Rattle.venue.specs.Reading.{Listed}
+use Rattle.venue.specs.Reading.{Listed, AllListed}
 use Rattle.day.specs.Governing.{precedence, marked, applies, takes, governingFrom, governing}
-use Rattle.day.specs.Meaning.{AllListed, Stands, ruled}
+use Rattle.day.specs.Meaning.{Stands, ruled}
 use Rattle.day.specs.declared.Governed.{Governed}
 use Rattle.day.specs.declared.Governed.the-variants.{Nothing, By}
 

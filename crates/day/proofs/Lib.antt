@@ -3,3 +3,4 @@ pub mod Governs
 pub mod Cutting
 pub mod Points
 pub mod Theorems
+pub mod Opened

@@ -1,22 +1,30 @@
--- What the functions require, and which values their answers mean: places in the book become the rules that stand there. Assumes nothing.
-use Prim.Native.Nat.{ℕ, _<_}
-use mathlib.Core.List.{List}
+-- Which values the functions' arguments and answers mean: places in the book become the rules and events that stand there. Assumes nothing.
+use Prim.Native.Nat.{ℕ}
+use mathlib.Core.List.{List, map}
 use mathlib.Core.Option.{Option, none, some}
 use mathlib.Core.Bool.{cond}
 use lib.Dec.{leb}
-use lib.ListN.{length, getD}
-use Rattle.records.specs.Records.{Rule, ruleAt}
+use Rattle.zone.specs.Zone.{zoneOf}
+use Rattle.records.specs.Records.{Rule, ruleAt, eventAt}
 use Rattle.venue.specs.Reading.{Listed}
-use Rattle.day.specs.Days.{Held}
+use Rattle.venue.specs.declared.opened.Header.{Header}
+use Rattle.day.specs.Governing.{governing}
+use Rattle.day.specs.Days.{Values, Held}
 use Rattle.day.specs.declared.Governed.{Governed}
 use Rattle.day.specs.declared.Governed.the-variants.{Nothing, By}
 use Rattle.day.specs.declared.Segment.{Segment}
 use Rattle.day.specs.declared.Spanned.{Spanned}
 use Rattle.day.specs.declared.Spanned.the-variants.{Missing, Whole}
 
--- a record of kind k stands at each of the places
-abbrev pub AllListed : ℕ → List ℕ → List ℕ → Type 0
-AllListed k s places = (i : ℕ) → i < length places → Listed k s (getD places i 0)
+-- the values of an opened book: by its header, its clock changes and where its rules and events stand
+abbrev pub valuesAt : List ℕ → Header → List ℕ → List ℕ → List ℕ → List ℕ → Values
+valuesAt s h ats offsets rules events =
+    record {
+      coverage = record { start = h .start .0; end = h .end .0 };
+      zone = zoneOf (h .first) ats offsets;
+      governing = governing (map (ruleAt s) rules);
+      events = map (eventAt s) events;
+    }
 
 abbrev pub ruled : List ℕ → Governed → Option Rule
 ruled s Nothing = none

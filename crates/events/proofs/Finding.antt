@@ -36,7 +36,7 @@ unfolding sought
 sought-append s [] ps = refl
 sought-append s (o ∷ os) ps = sought-append (met s o) os ps
 
-pub met-by : (s : Search) (o : Occurrence) (b : Best) → b ≡ cond (fromHere (s .at) (s .index) o (s .count) && better (s .best) o) (Some o (s .count)) (s .best)
+pub met-by : (s : Search) (o : Occurrence) (b : Best) → b ≡ cond (fromHere (s .at .0) (s .index) o (s .count) && better (s .best) o) (Some o (s .count)) (s .best)
     → _≡_ {A = Search} (record { at = s .at; index = s .index; count = s .count + 1; best = b }) (met s o)
 met-by s o b e = ap (λ (a : Best). record { at = s .at; index = s .index; count = s .count + 1; best = a }) e
 
@@ -142,27 +142,21 @@ module _ (z : Zone) (from to d : ℕ) (book places : List ℕ) where
   unfolding onDate
   events-end on h few = let w = pass-end refl on h in (w .0, omega (arith, w .1))
 
--- ---- the dates of a span, from the date a to the date b: all up to `date` are passed
+-- ---- the dates of a span, from the date a to the date b: after s, which passed a, all up to `date` are passed
 
 module _ (z : Zone) (from to : ℕ) (es : List Event) (a b : ℕ) where
   pub record Spanning (s t : Search) (date : ℕ) : Type 0 where
     pub low : a ≤ date
     pub high : date ≤ max a b
-    pub same : sought s (onDates z from to es a (suc (b - a))) ≡ sought t (onDates z from to es (suc date) (b - date))
+    pub same : sought s (onDates z from to es (suc a) (b - a)) ≡ sought t (onDates z from to es (suc date) (b - date))
     pub few : t .count ≤ 256 * (date - a + 1)
 
   date-in : (t : Search) (d n : ℕ) → sought t (onDates z from to es d (suc n)) ≡ sought (sought t (onDate z from to d es)) (onDates z from to es (suc d) n)
   unfolding onDates
   date-in t d n = sought-append t (onDate z from to d es) (onDates z from to es (suc d) n)
 
-  pub dates-start : {s r : Search} → s .count ≡ 0 → r ≡ sought s (onDate z from to a es) → r .count ≤ s .count + 256 → Spanning s r a
-  dates-start {s} {r} c q n =
-      record {
-        low = omega arith;
-        high = omega arith;
-        same = date-in s a (b - a) ∙ ap (λ (w : Search). sought w (onDates z from to es (suc a) (b - a))) (sym q);
-        few = omega arith;
-      }
+  pub dates-start : {s : Search} → s .count ≤ 256 → Spanning s s a
+  dates-start n = record { low = omega arith; high = omega arith; same = refl; few = omega arith }
 
   pub date-one : {s t r : Search} {date : ℕ} → Spanning s t date → date < b → r ≡ sought t (onDate z from to (date + 1) es) → r .count ≤ t .count + 256 → Spanning s r (date + 1)
   date-one {s} {t} {r} {date} p h q n =
@@ -183,8 +177,12 @@ module _ (z : Zone) (from to : ℕ) (es : List Event) (a b : ℕ) where
   pub dates-few : {s t : Search} {date : ℕ} → Spanning s t date → t .count ≤ 256 * (b + 1)
   dates-few p = omega (arith, p .low, p .high, p .few)
 
-  pub dates-end : {s t : Search} {date : ℕ} → Spanning s t date → b ≤ date → a ≡ dateAt z from → b ≡ dateAt z to → t ≡ sought s (found z es from to)
+  pub dates-end : (none : Search) {s t : Search} {date : ℕ} → s ≡ sought none (onDate z from to a es) → Spanning s t date → b ≤ date → a ≡ dateAt z from → b ≡ dateAt z to
+      → t ≡ sought none (found z es from to)
   unfolding sought onDates found
-  dates-end {s} {t} {date} p h i j =
+  dates-end none {s} {t} {date} q p h i j =
       let k : b - date ≡ 0 = omega arith in
-      sym (p .same ∙ ap (λ (m : ℕ). sought t (onDates z from to es (suc date) m)) k) ∙ ap₂ (λ (m n : ℕ). sought s (onDates z from to es m (suc (n - m)))) i j
+      sym (p .same ∙ ap (λ (m : ℕ). sought t (onDates z from to es (suc date) m)) k)
+      ∙ ap (λ (w : Search). sought w (onDates z from to es (suc a) (b - a))) q
+      ∙ sym (date-in none a (b - a))
+      ∙ ap₂ (λ (m n : ℕ). sought none (onDates z from to es m (suc (n - m)))) i j

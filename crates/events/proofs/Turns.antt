@@ -279,10 +279,10 @@ one-more a x k b o ms l = go (fromHere a x o k) refl
         ∙ ap (pick b) (sym (ap first (put-in a x (numbered o k) ms h l) ∙ first-put (numbered o k) (from a x ms)))
     go false h = ap (λ (r : List Numbered). pick b (first r)) (sym (put-out a x (numbered o k) ms h))
 
-best-first : (s : Search) (os : List Occurrence) → sought s os .best ≡ pick (s .best) (first (from (s .at) (s .index) (inOrder (s .count) os)))
+best-first : (s : Search) (os : List Occurrence) → sought s os .best ≡ pick (s .best) (first (from (s .at .0) (s .index) (inOrder (s .count) os)))
 unfolding sought
 best-first s [] = refl
-best-first s (o ∷ os) = best-first (met s o) os ∙ one-more (s .at) (s .index) (s .count) (s .best) o (inOrder (s .count + 1) os) (order-numbers (s .count + 1) os)
+best-first s (o ∷ os) = best-first (met s o) os ∙ one-more (s .at .0) (s .index) (s .count) (s .best) o (inOrder (s .count + 1) os) (order-numbers (s .count + 1) os)
 
 -- ---- in order each comes behind the one before
 

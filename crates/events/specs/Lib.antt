@@ -1,4 +1,3 @@
 pub mod Happenings
 pub mod Seeking
 pub mod Order
-pub mod Requires

@@ -24,7 +24,7 @@ met s o =
       at = s .at;
       index = s .index;
       count = s .count + 1;
-      best = cond (fromHere (s .at) (s .index) o (s .count) && better (s .best) o) (Some o (s .count)) (s .best);
+      best = cond (fromHere (s .at .0) (s .index) o (s .count) && better (s .best) o) (Some o (s .count)) (s .best);
     }
 
 unfoldable pub sought : Search → List Occurrence → Search
@@ -33,7 +33,7 @@ sought s (o ∷ os) = sought (met s o) os
 
 -- nothing met yet, from the number `index` at the instant `at` on
 abbrev pub begin : ℕ → ℕ → Search
-begin at index = record { at = at; index = index; count = 0; best = None }
+begin at index = record { at = record { 0 = at }; index = index; count = 0; best = None }
 
 -- the events one after the other, at most n: each sought behind the one before
 unfoldable pub inTurn : List Occurrence → ℕ → Best → List Occurrence

@@ -3,6 +3,7 @@ mod seek;
 
 pub use seek::search_events;
 use zone::Boundary;
+use zone::Instant;
 
 pub struct Occurrence {
     pub code: u16,
@@ -19,7 +20,7 @@ pub enum Best {
 // A search among the events found: how many were met, and the first of them, by instant and number, from the number `index` at the
 // instant `at` on.
 pub struct Search {
-    pub at: u64,
+    pub at: Instant,
     pub index: usize,
     pub count: usize,
     pub best: Best,

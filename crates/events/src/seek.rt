@@ -6,10 +6,9 @@ ghost use lib.ListN.{length};
 ghost use Rattle.zone.specs.Zone.{zoneOf};
 ghost use Rattle.zone.specs.Answers.{Valid};
 ghost use Rattle.records.specs.Records.{eventAt};
-ghost use Rattle.venue.specs.Reading.{Listed};
+ghost use Rattle.venue.specs.Reading.{Listed, AllListed};
 ghost use Rattle.events.specs.Happenings.{occurrence as Happenings·occurrence, happens as Happenings·happens, onTimes, onDate, found};
 ghost use Rattle.events.specs.Seeking.{met as Seeking·met, sought, begin, better as Seeking·better};
-ghost use Rattle.events.specs.Requires.{AllListed};
 use crate::Best;
 use crate::Occurrence;
 use crate::Search;
@@ -76,14 +75,15 @@ fn met(s: Search, o: Occurrence) -> Search
     let boundary = o.boundary;
     let at = boundary.at;
     let old = s.best;
-    let here = (s.at < at.0) | ((s.at == at.0) & (s.index <= s.count));
+    let from = s.at;
+    let here = (from.0 < at.0) | ((from.0 == at.0) & (s.index <= s.count));
     let best = if here & better(old, o) {
         Best::Some(o, s.count)
     } else {
         old
     };
     Search {
-        at: s.at,
+        at: from,
         index: s.index,
         count: s.count + 1,
         best,
@@ -140,7 +140,7 @@ fn on_date(
     to: Instant,
     s: Search,
 ) -> Search
-    requires { ⌜ Valid first (now ats) (now offsets) × AllListed (now book) (now events) × (length (now events) ≤ 32) × (s .count ≤ 2 ^ 61) ⌝ }
+    requires { ⌜ Valid first (now ats) (now offsets) × AllListed 4 (now book) (now events) × (length (now events) ≤ 32) × (s .count ≤ 2 ^ 61) ⌝ }
     ensures { λ r.
         ⌜ (r ≡ sought s (onDate (zoneOf first (now (ats .entry)) (now (offsets .entry))) (from .0) (to .0) (d .0) (map (eventAt (now (book .entry))) (now (events .entry)))))
         × (r .count ≤ s .count + 256) ⌝ }
@@ -167,12 +167,12 @@ pub fn search_events(
     events: &[u32],
     from: Instant,
     to: Instant,
-    at: u64,
+    at: Instant,
     index: usize,
 ) -> Search
-    requires { ⌜ Valid first (now ats) (now offsets) × AllListed (now book) (now events) × (length (now events) ≤ 32) ⌝ }
+    requires { ⌜ Valid first (now ats) (now offsets) × AllListed 4 (now book) (now events) × (length (now events) ≤ 32) ⌝ }
     ensures { λ r.
-        ⌜ (r ≡ sought (begin at index) (found (zoneOf first (now (ats .entry)) (now (offsets .entry))) (map (eventAt (now (book .entry))) (now (events .entry))) (from .0) (to .0)))
+        ⌜ (r ≡ sought (begin (at .0) index) (found (zoneOf first (now (ats .entry)) (now (offsets .entry))) (map (eventAt (now (book .entry))) (now (events .entry))) (from .0) (to .0)))
         × (r .count ≤ 2 ^ 25) ⌝ }
 {
     let begins = day_at(first, ats, offsets, from);

@@ -1,6 +1,1 @@
-pub mod Queries
-pub mod Trailing
-pub mod Venues
-pub mod Telling
 pub mod Closing
-pub mod Once

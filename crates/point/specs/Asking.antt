@@ -1,54 +1,25 @@
 -- The point answer in bytes: which number a question gets, and what is answered. Assumes nothing.
 use Prim.Native.Nat.{ℕ}
 use mathlib.Core.Bool.{cond}
-use mathlib.Core.List.{List, [], _∷_, _++_, map}
+use mathlib.Core.List.{List, [], _∷_}
 use mathlib.Core.Option.{Option, none, some}
 use lib.Dec.{eqb}
 use lib.IntN.{ℤ}
-use lib.ListN.{length}
-use Rattle.zone.specs.Units.{instantNumber}
-use Rattle.zone.specs.Answers.{values}
 use Rattle.records.specs.Limits.{base}
 use Rattle.records.specs.Records.{Coverage, Record}
 use Rattle.records.specs.Book.{inside, instants, refusal, records}
 use Rattle.venue.specs.Opening.{instantOf, coverageOf}
-use Rattle.day.specs.Days.{Values, Held, valuesOf, whole, pointOf}
-use Rattle.events.specs.Happenings.{eventsIn}
-use Rattle.events.specs.declared.Occurrence.{Occurrence}
-use Rattle.answer.specs.Forms as Forms
-use Rattle.answer.specs.Forms.{Cover, Form, phase, event, point, encode}
-use Rattle.answer.specs.Meaning.{sideOf, eventOf}
+use Rattle.day.specs.Days.{Values, Held, valuesOf, pointOf}
+use Rattle.answer.specs.Forms.{Cover, Form, point, encodeAll}
+use Rattle.tell.specs.Shown.{shown, shownForms}
 
 -- the book's number, else 10 for an instant outside its range
 unfoldable pub pointNumber : List ℕ → ℤ → ℕ
 pointNumber s n = cond (eqb (refusal base s) 0) (cond (inside instants n) 0 10) (refusal base s)
 
--- a known point: its whole span as start and end, and how many events follow
-abbrev pub phaseForm : Held → ℕ → Forms.Phase
-phaseForm h k =
-    record {
-      start = instantNumber (h .start .at .0);
-      end = instantNumber (h .end .at .0);
-      phase = h .phase;
-      code = h .rule .code;
-      label = h .rule .label;
-      evidence = h .rule .evidence;
-      derived = h .rule .derived;
-      from = sideOf (h .start);
-      to = sideOf (h .end);
-      whole = values (whole h);
-      events = k;
-    }
-
-abbrev pub eventForm : Occurrence → Form
-eventForm o = event (eventOf (o .code) (o .boundary) (o .evidence))
-
--- with its events behind it
-abbrev pub withEvents : Held → List Occurrence → List Form
-withEvents h os = phase (phaseForm h (length os)) ∷ map eventForm os
-
+-- a known point: its whole span as start and end, with its events behind it
 abbrev pub knownForms : Values → Held → List Form
-knownForms v h = withEvents h (eventsIn (v .zone) (v .events) (h .start .at .0) (h .end .at .0))
+knownForms v h = shownForms (h .start .at .0) (h .end .at .0) (shown (v .zone) (v .events) h)
 
 -- an unknown one: the instant, and coverage if there is any
 abbrev pub missingForms : ℤ → Option Cover → List Form
@@ -65,10 +36,6 @@ byCoverage rs n (some c) = byPoint (valuesOf rs c) c n (pointOf (valuesOf rs c) 
 
 abbrev pub pointForms : List ℕ → ℤ → List Form
 pointForms s n = byCoverage (records s) n (coverageOf (records s))
-
-unfoldable pub encodeAll : List Form → List ℕ
-encodeAll [] = []
-encodeAll (f ∷ fs) = encode f ++ encodeAll fs
 
 unfoldable pub pointAnswer : List ℕ → ℤ → List ℕ
 pointAnswer s n = encodeAll (pointForms s n)

@@ -16,7 +16,7 @@ use Rattle.records.specs.Frame.{Framed}
 use Rattle.records.proofs.Frames.{Kind, one, two, three, four, kind-of, is-one, is-two, is-three, is-four}
 use Rattle.venue.specs.Opening.{offsetOf, coverageOf, rulesOf, eventsOf, atsOf, offsetsOf, placesFrom, places}
 use Rattle.venue.proofs.Passing.{Ahead, Next, ahead-start, ahead-next, no-turns, kind-here, no-records, no-places, one-record, one-place, no-place, places-many, few-records}
-use Rattle.venue.specs.Reading.{Listed, GoodCoverage, GoodRule, GoodEvent}
+use Rattle.venue.specs.Reading.{Listed, AllListed, GoodCoverage, GoodRule, GoodEvent}
 use Rattle.venue.proofs.Listing.{day-value, rule-fields, rule-each, rule-rises, event-fields, event-each}
 use Rattle.venue.proofs.Changes.{Chain, covers-good, changes-valid}
 
@@ -68,30 +68,30 @@ listed-here n e =
       forward = p .forward;
     }
 
--- all that stand in a list
-abbrev AllListed : ℕ → List ℕ → List ℕ → Type 0
-AllListed k s [] = Unit {0}
-AllListed k s (p ∷ ps) = Listed k s p × AllListed k s ps
+-- each of a list, one after the other
+abbrev EachListed : ℕ → List ℕ → List ℕ → Type 0
+EachListed k s [] = Unit {0}
+EachListed k s (p ∷ ps) = Listed k s p × EachListed k s ps
 
-listed-from : (k : ℕ) {s : List ℕ} (turns : ℕ) {at : ℕ} {before : List Record} → Ahead s at turns before → AllListed k s (placesFrom k s turns at)
+listed-from : (k : ℕ) {s : List ℕ} (turns : ℕ) {at : ℕ} {before : List Record} → Ahead s at turns before → EachListed k s (placesFrom k s turns at)
 unfolding placesFrom
 listed-from k zero a = tt
 listed-from k {s} (suc g) {at} {before} a = go (λ h. listed-from k g (ahead-next a h .ahead)) (decLe (length s) at)
   where
-    by-kind : (h : at < length s) → AllListed k s (placesFrom k s g (nextAt s at)) → Dec (kindAt s at ≡ k) → AllListed k s (placesFrom k s (suc g) at)
+    by-kind : (h : at < length s) → EachListed k s (placesFrom k s g (nextAt s at)) → Dec (kindAt s at ≡ k) → EachListed k s (placesFrom k s (suc g) at)
     by-kind h more (yes e) = rw (one-place s at g h k e) (listed-here (ahead-next a h) e, more)
     by-kind h more (no e) = rw (no-place s at g h k e) more
 
-    go : ((h : at < length s) → AllListed k s (placesFrom k s g (nextAt s at))) → Dec (length s ≤ at) → AllListed k s (placesFrom k s (suc g) at)
+    go : ((h : at < length s) → EachListed k s (placesFrom k s g (nextAt s at))) → Dec (length s ≤ at) → EachListed k s (placesFrom k s (suc g) at)
     go more (yes h) = rw (no-places s at k (suc g) h) tt
     go more (no h) = by-kind (lt-of-not-le h) (more (lt-of-not-le h)) (ℕ-discrete (kindAt s at) k)
 
-one-of : (k : ℕ) (s ps : List ℕ) → AllListed k s ps → (i : ℕ) → i < length ps → Listed k s (getD ps i 0)
+one-of : (k : ℕ) (s ps : List ℕ) → EachListed k s ps → (i : ℕ) → i < length ps → Listed k s (getD ps i 0)
 one-of k s [] a i h = absurd (omega arith)
 one-of k s (p ∷ ps) a zero h = a .0
 one-of k s (p ∷ ps) a (suc i) h = one-of k s ps (a .1) i (le-of-suc-le-suc h)
 
-pub places-listed : (k : ℕ) (s : List ℕ) → refusal base s ≡ 0 → (i : ℕ) → i < length (places k s) → Listed k s (getD (places k s) i 0)
+pub places-listed : (k : ℕ) (s : List ℕ) → refusal base s ≡ 0 → AllListed k s (places k s)
 places-listed k s e i h = one-of k s (places k s) (listed-from k (length s) (ahead-start s e)) i h
 
 -- ---- in the listed order

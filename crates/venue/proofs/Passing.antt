@@ -328,10 +328,10 @@ pub record Changing (s ats ats′ offsets offsets′ : List ℕ) (at n : ℕ) : 
   pub to-ats : Storing ats ats′ n (atsOf (records s)) (atsOf (recordsFrom s turns at))
   pub to-offsets : Storing offsets offsets′ n (offsetsOf (records s)) (offsetsOf (recordsFrom s turns at))
 
-ats-many : (rs : List Record) → length (atsOf rs) ≡ many 2 rs
+pub ats-many : (rs : List Record) → length (atsOf rs) ≡ many 2 rs
 ats-many rs = length-map _ (transitionsOf rs) ∙ transitions-many rs
 
-offsets-many : (rs : List Record) → length (offsetsOf rs) ≡ many 2 rs
+pub offsets-many : (rs : List Record) → length (offsetsOf rs) ≡ many 2 rs
 offsets-many rs = length-map _ (transitionsOf rs) ∙ transitions-many rs
 
 pub change-start : (s ats offsets : List ℕ) → Fitting 2 s ats → length offsets ≡ length ats → Changing s ats ats offsets offsets 0 0

@@ -1,3 +1,4 @@
 pub mod Opening
 pub mod Reading
+pub mod Filled
 pub mod Private

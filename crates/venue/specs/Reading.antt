@@ -4,7 +4,7 @@ use mathlib.Core.Path.{_≡_}
 use mathlib.Core.Bool.{false, cond}
 use mathlib.Core.List.{List, [], _∷_}
 use lib.Dec.{eqb}
-use lib.ListN.{length}
+use lib.ListN.{length, getD}
 use Rattle.wire.specs.Signs.{since}
 use Rattle.calendar.specs.Answers.{firstDay, lastDay}
 use Rattle.zone.specs.Units.{dayNs}
@@ -25,6 +25,10 @@ pub record Listed (k : ℕ) (s : List ℕ) (p : ℕ) : Type 0 where
   pub prompt : lateStart (recordAt s p) ≡ false
   pub rising : falling (recordAt s p) ≡ false
   pub forward : reversed (recordAt s p) ≡ false
+
+-- a record of kind k stands at each of the places
+abbrev pub AllListed : ℕ → List ℕ → List ℕ → Type 0
+AllListed k s places = (i : ℕ) → i < length places → Listed k s (getD places i 0)
 
 -- a published uncertainty: tag 0 exact, 1 granularity, 2 bound, 3 process start
 abbrev pub published : Published → Uncertainty

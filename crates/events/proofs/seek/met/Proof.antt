@@ -9,7 +9,7 @@ returns : tie.Need-returns
 returns c =
     let at-if1 = c .before in
     let at-better = at-if1 .before in
-    let at-start = at-better .before .before .before .before .before .before .before .before in
+    let at-start = at-better .before .before .before .before .before .before .before .before .before in
     met-by (at-start .args .s) (at-start .args .o) (at-if1 .if1 .best)
     (⊎-elim (λ w. simp (sym (at-better .better .ensures), w .0 .taken) (w .1)) (λ w. simp (sym (at-better .better .ensures), w .0 .left) (w .1)) (at-if1 .if1 .came))
 

@@ -1,18 +1,16 @@
-use Rattle.point.proofs.Trailing.{Trailing, trail-start, trail-end, trail-none, trail-index, trail-room, trail-one}
-use Rattle.events.proofs.Turns.{sought-count}
+use Rattle.tell.proofs.Trailing.{begun-count, Trailing, trail-start, trail-end, trail-none, trail-index, trail-room, trail-one}
 use Rattle.events.specs.declared.Search.{Search}
-use Rattle.events.specs.Seeking.{begin}
 use Rattle.events.specs.Happenings.{found}
 use Rattle.records.specs.Records.{eventAt}
 use Rattle.zone.specs.Zone.{zoneOf}
 use lib.ListN.{length}
 use mathlib.Core.List.{map}
 use Prim.Native.Nat.{_-_}
-use mathlib.Core.Path.{_≡_, ap, _∙_}
+use mathlib.Core.Path.{_≡_, ap}
 use borrow.Author.Needs.{needs}
 use native.Mathlib.Omega.{arith}
-use Rattle.point.proofs.tell.put_events.Statement.{statement}
-use Rattle.point.proofs.tell.put_events.Tie as tie
+use Rattle.tell.proofs.put_events.Statement.{statement}
+use Rattle.tell.proofs.put_events.Tie as tie
 
 abbrev Inv-loop : tie.InvT-loop
 Inv-loop book first ats offsets events from to out₀ at count best₀ place₀ i₀ out best place i =
@@ -25,13 +23,13 @@ abbrev μ-loop : tie.MeasureT-loop
 search-events-requires : tie.Need-search-events-requires Inv-loop μ-loop
 search-events-requires c κs =
     let at-start = c .before .before .before .before .before in
-    (((at-start .pre) .0) .zone, ((at-start .pre) .0) .listed, ((at-start .pre) .0) .few)
+    ((at-start .pre) .0, (at-start .pre) .1, (at-start .pre) .2)
 
 loop-holds : tie.Need-loop-holds Inv-loop μ-loop
 loop-holds c =
     let at-search-events = c in
     let at-start = at-search-events .before .before .before .before .before .before in
-    (let e = (ap (λ (s : Search). s .count) ((at-search-events .search-events .ensures) .0) ∙ sought-count (begin 0 0) (found (zoneOf (at-start .args .first) ((at-start .args .ats) .now) ((at-start .args .offsets) .now)) (map (eventAt ((at-start .args .book) .now)) ((at-start .args .events) .now)) ((at-start .args .from) .0) ((at-start .args .to) .0))) in omega arith, trail-start (found (zoneOf (at-start .args .first) ((at-start .args .ats) .now) ((at-start .args .offsets) .now)) (map (eventAt ((at-start .args .book) .now)) ((at-start .args .events) .now)) ((at-start .args .from) .0) ((at-start .args .to) .0)) ((at-start .args .out) .now) (at-start .args .at) ((at-start .pre) .1) (ap (λ (s : Search). s .best) ((at-search-events .search-events .ensures) .0)))
+    (begun-count 0 0 (found (zoneOf (at-start .args .first) ((at-start .args .ats) .now) ((at-start .args .offsets) .now)) (map (eventAt ((at-start .args .book) .now)) ((at-start .args .events) .now)) ((at-start .args .from) .0) ((at-start .args .to) .0)) ((at-search-events .search-events .ensures) .0), trail-start (found (zoneOf (at-start .args .first) ((at-start .args .ats) .now) ((at-start .args .offsets) .now)) (map (eventAt ((at-start .args .book) .now)) ((at-start .args .events) .now)) ((at-start .args .from) .0) ((at-start .args .to) .0)) ((at-start .args .out) .now) (at-start .args .at) ((at-start .pre) .3) (ap (λ (s : Search). s .best) ((at-search-events .search-events .ensures) .0)))
 
 same-length : tie.Need-same-length Inv-loop μ-loop
 same-length c =
@@ -65,7 +63,7 @@ add-search-events c =
 search-events-requires-2 : tie.Need-search-events-requires-2 Inv-loop μ-loop
 search-events-requires-2 c κs =
     let at-start = c .before .before .before .before .before .before .before .before .before .before .before .before .before .before .before .before .before in
-    (((at-start .pre) .0) .zone, ((at-start .pre) .0) .listed, ((at-start .pre) .0) .few)
+    ((at-start .pre) .0, (at-start .pre) .1, (at-start .pre) .2)
 
 add-i : tie.Need-add-i Inv-loop μ-loop
 add-i c =

@@ -1,4 +1,4 @@
-use Rattle.point.proofs.Closing.{stored-length, ats-fit, offsets-fit, rules-fit, events-fit}
+use Rattle.venue.proofs.Fronts.{stored-length, ats-fit, offsets-fit, rules-fit, events-fit, filled}
 use Rattle.point.specs.Asking.{pointNumber, pointAnswer}
 use Rattle.lend.proofs.Replies.{lent-same}
 use mir.ValLaws.{toZ-ofZ}
@@ -6,8 +6,8 @@ use mir.Syntax.{w64}
 use mathlib.Core.Path.{sym, ap}
 use native.Mathlib.Omega.{arith}
 use borrow.Author.Needs.{needs}
-use Rattle.point.proofs.tell.point_answer.Statement.{statement}
-use Rattle.point.proofs.tell.point_answer.Tie as tie
+use Rattle.point.proofs.reply.point_answer.Statement.{statement}
+use Rattle.point.proofs.reply.point_answer.Tie as tie
 
 slice-aggregate-tell-opened : tie.Need-slice-aggregate-tell-opened
 slice-aggregate-tell-opened c =
@@ -32,11 +32,7 @@ slice-aggregate-tell-opened-4 c =
 tell-opened-requires : tie.Need-tell-opened-requires
 tell-opened-requires c κs =
     let at-start = c .before .before .before .before .before .before .before .before .before .before .before .before in
-    let a = (stored-length ((at-start .args .book) .now) _ _ (ats-fit ((at-start .args .book) .now)) ((c .before .before .before .before .before .«open» .ensures) .1)) in
-    let o = (stored-length ((at-start .args .book) .now) _ _ (offsets-fit ((at-start .args .book) .now)) ((c .before .before .before .before .before .«open» .ensures) .2)) in
-    let r = (stored-length ((at-start .args .book) .now) _ _ (rules-fit ((at-start .args .book) .now)) ((c .before .before .before .before .before .«open» .ensures) .3)) in
-    let v = (stored-length ((at-start .args .book) .now) _ _ (events-fit ((at-start .args .book) .now)) ((c .before .before .before .before .before .«open» .ensures) .4)) in
-    record { answer = (c .before .before .before .before .before .«open» .ensures) .0; old-ats = _; old-offsets = _; old-rules = _; old-events = _; ats-are = (c .before .before .before .before .before .«open» .ensures) .1; offsets-are = (c .before .before .before .before .before .«open» .ensures) .2; rules-are = (c .before .before .before .before .before .«open» .ensures) .3; events-are = (c .before .before .before .before .before .«open» .ensures) .4; ats-long = omega (arith, a); offsets-long = omega (arith, o); rules-long = omega (arith, r); events-long = omega (arith, v) }
+    filled ((at-start .args .book) .now) _ _ _ _ (c .before .before .before .before .before .«open» .ensures) (omega arith) (omega arith) (omega arith) (omega arith)
 
 returns : tie.Need-returns
 returns c =

@@ -16,8 +16,8 @@ use Rattle.events.specs.declared.Best.the-variants.{None, Some}
 use Rattle.events.specs.declared.Search.{Search}
 use Rattle.events.proofs.Order.{length-sorted}
 use Rattle.events.proofs.Turns.{sought-count, in-turn}
-use Rattle.answer.specs.Forms.{encode, allFields}
-use Rattle.point.specs.Asking.{eventForm, encodeAll}
+use Rattle.answer.specs.Forms.{encode, encodeAll, allFields}
+use Rattle.tell.specs.Shown.{eventForm}
 
 -- ---- lengths
 
@@ -49,52 +49,60 @@ below-met false b o n h = below-more b n h
 below-sought : (s : Search) (os : List Occurrence) → Below (s .best) (s .count) → Below (sought s os .best) (sought s os .count)
 unfolding sought
 below-sought s [] h = h
-below-sought s (o ∷ os) h = below-sought (met s o) os (below-met (fromHere (s .at) (s .index) o (s .count) && better (s .best) o) (s .best) o (s .count) h)
+below-sought s (o ∷ os) h = below-sought (met s o) os (below-met (fromHere (s .at .0) (s .index) o (s .count) && better (s .best) o) (s .best) o (s .count) h)
+
+-- as many were met as there are
+pub begun-count : (at index : ℕ) (os : List Occurrence) {s : Search} → s ≡ sought (begin at index) os → s .count ≡ length os
+begun-count at index os e = let c = ap (λ (x : Search). x .count) e ∙ sought-count (begin at index) os in omega arith
 
 pub below-begun : (at index : ℕ) (os : List Occurrence) → Below (sought (begin at index) os .best) (length os)
 below-begun at index os = go (sought (begin at index) os .best) (below-sought (begin at index) os tt)
   where
-    c : sought (begin at index) os .count ≡ length os
-    c = let e = sought-count (begin at index) os in omega arith
-
     go : (b : Best) → Below b (sought (begin at index) os .count) → Below b (length os)
     go None h = tt
-    go (Some o i) h = omega (arith, c)
+    go (Some o i) h = omega (arith, begun-count at index os refl)
 
 -- ---- what is left
 
 module _ (os : List Occurrence) (room : List ℕ) (at : ℕ) where
   pub record Trailing (now : List ℕ) (place i : ℕ) (best : Best) : Type 0 where
-    pub few : i ≤ length os
     pub below : Below best (length os)
+    pub left : i + length (inTurn os (length os - i) best) ≡ length os
     pub same : wrote room at (encodeAll (map eventForm (byInstant os))) ≡ wrote now place (encodeAll (map eventForm (inTurn os (length os - i) best)))
-    pub fits : place + length (encodeAll (map eventForm (inTurn os (length os - i) best))) ≤ length now
+    pub behind : place ≡ at + 35 * i
+    pub fits : at + 35 * length os ≤ length room
     pub kept : length now ≡ length room
 
   pub trail-start : at + 35 * length os ≤ length room → {best : Best} → best ≡ sought (begin 0 0) os .best → Trailing room at 0 best
   trail-start h e =
       let z : length os - 0 ≡ length os = omega arith in
-      let t = in-turn os in
-      let q : inTurn os (length os - 0) _ ≡ byInstant os = ap₂ (inTurn os) z e ∙ t in
+      let q : inTurn os (length os - 0) _ ≡ byInstant os = ap₂ (inTurn os) z e ∙ in-turn os in
       record {
-        few = omega arith;
         below = rw e (below-begun 0 0 os);
+        left = let l = ap length q ∙ length-sorted os in omega arith;
         same = ap (λ (l : List Occurrence). wrote room at (encodeAll (map eventForm l))) (sym q);
-        fits = rw q (omega (arith, events-length (byInstant os), length-sorted os));
+        behind = omega arith;
+        fits = h;
         kept = refl;
       }
 
   module _ {now : List ℕ} {place i : ℕ} {best : Best} (w : Trailing now place i best) where
     -- nothing is left
-    over : inTurn os (length os - i) best ≡ [] → now ≡ wrote room at (encodeAll (map eventForm (byInstant os)))
+    over : inTurn os (length os - i) best ≡ [] → Put room at (encodeAll (map eventForm (byInstant os))) (35 * length os) now place
     unfolding encodeAll
-    over e = sym (w .same ∙ ap (λ (l : List Occurrence). wrote now place (encodeAll (map eventForm l))) e ∙ wrote-nothing now place)
+    over e =
+        record {
+          same = sym (w .same ∙ ap (λ (l : List Occurrence). wrote now place (encodeAll (map eventForm l))) e ∙ wrote-nothing now place);
+          behind = let z = ap length e in omega (arith, w .left, w .behind);
+          many = omega (arith, events-length (byInstant os), length-sorted os);
+          kept = w .kept;
+        }
 
-    pub trail-end : length os ≤ i → now ≡ wrote room at (encodeAll (map eventForm (byInstant os)))
+    pub trail-end : length os ≤ i → Put room at (encodeAll (map eventForm (byInstant os))) (35 * length os) now place
     unfolding inTurn
     trail-end h = let z : length os - i ≡ 0 = omega arith in over (ap (λ (n : ℕ). inTurn os n best) z)
 
-    pub trail-none : best ≡ None → now ≡ wrote room at (encodeAll (map eventForm (byInstant os)))
+    pub trail-none : best ≡ None → Put room at (encodeAll (map eventForm (byInstant os))) (35 * length os) now place
     unfolding inTurn
     trail-none e = over (ap (inTurn os (length os - i)) e ∙ go (length os - i))
       where
@@ -114,29 +122,26 @@ module _ (os : List Occurrence) (room : List ℕ) (at : ℕ) where
       trail-index = rw e at (w .below)
 
       pub trail-room : place + 35 ≤ length now
-      unfolding encodeAll
-      trail-room =
-          let l = ap (λ (x : List Occurrence). length (encodeAll (map eventForm x))) turn in
-          let m = length-append (encode (eventForm o)) (encodeAll (map eventForm (inTurn os (length os - (i + 1)) next))) in
-          omega (arith, w .fits, event-length o)
+      trail-room = omega (arith, w .behind, w .fits, w .kept)
 
       pub trail-one : {now′ : List ℕ} {place′ : ℕ} {best′ : Best} → Put now place (encode (eventForm o)) 35 now′ place′ → best′ ≡ next → Trailing now′ place′ (i + 1) best′
       unfolding encodeAll
       trail-one {now′} {place′} {best′} p b =
           let rest = encodeAll (map eventForm (inTurn os (length os - (i + 1)) next)) in
-          let l = ap (λ (x : List Occurrence). length (encodeAll (map eventForm x))) turn in
-          let m = length-append (encode (eventForm o)) rest in
-          let f = w .fits in
-          let k = event-length o in
-          let q = p .behind in
-          let v = p .kept in
+          let l = ap length turn in
+          let more : i + 1 + length (inTurn os (length os - (i + 1)) next) ≡ length os = omega (arith, w .left) in
+          let place-is : place ≡ at + 35 * i = w .behind in
+          let next-is : place′ ≡ place + 35 = p .behind in
+          let fit : place′ + length rest ≤ length now =
+          omega (arith, more, next-is, place-is, w .fits, w .kept, events-length (inTurn os (length os - (i + 1)) next)) in
           rw b
           (record {
-            few = omega arith;
             below = below-begun (o .boundary .at .0) (index + 1) os;
+            left = more;
             same =
                 w .same ∙ ap (λ (x : List Occurrence). wrote now place (encodeAll (map eventForm x))) turn
-                ∙ sym (ap (λ (x : List ℕ). wrote x place′ rest) (p .same) ∙ wrote-wrote now place place′ (encode (eventForm o)) rest (omega arith) (omega arith));
-            fits = omega arith;
-            kept = omega (arith, w .kept);
+                ∙ sym (ap (λ (x : List ℕ). wrote x place′ rest) (p .same) ∙ wrote-wrote now place place′ (encode (eventForm o)) rest (omega (arith, next-is, p .many)) fit);
+            behind = omega (arith, next-is, place-is);
+            fits = w .fits;
+            kept = omega (arith, p .kept, w .kept);
           })

@@ -1,30 +1,27 @@
-use Rattle.point.proofs.Telling.{one-form}
+use Rattle.answer.proofs.Several.{one-form}
+use Rattle.answer.specs.Forms.{encodeAll}
 use Rattle.point.specs.Private.{toldHeld}
-use Rattle.point.specs.Asking.{encodeAll}
 use Rattle.lend.proofs.Replies.{lent-same}
 use Rattle.answer.specs.declared.Covered.the-variants.{Between}
-use Rattle.day.specs.Meaning.{held, Placed}
+use Rattle.day.specs.Meaning.{held, Placed, valuesAt}
 use Rattle.day.specs.Days.{Held}
-use Rattle.records.specs.Records.{eventAt}
-use Rattle.zone.specs.Zone.{zoneOf}
 use mathlib.Core.Option.{Option}
-use mathlib.Core.List.{map}
 use mathlib.Core.Path.{refl, sym, ap, _∙_, subst}
 use borrow.Author.Needs.{needs}
-use Rattle.point.proofs.tell.tell_venue.Statement.{statement}
-use Rattle.point.proofs.tell.tell_venue.Tie as tie
+use Rattle.point.proofs.reply.tell_venue.Statement.{statement}
+use Rattle.point.proofs.reply.tell_venue.Tie as tie
 
 point-requires : tie.Need-point-requires
 point-requires c κs =
     let at-start = c .before .before .before .before .before .before .before .before in
-    ((at-start .pre) .0 .zone, (at-start .pre) .1)
+    ((at-start .pre) .zone, (at-start .pre) .rules-listed)
 
 tell-known-requires : tie.Need-tell-known-requires
 tell-known-requires c κs =
     let at-g = c .before .before in
     let at-point = at-g .before .before in
     let at-start = at-point .before .before .before .before .before .before .before .before .before in
-    ((at-start .pre) .0, subst (Placed ((at-start .args .book) .now)) ((at-g .g .given) .1) ((at-point .point .ensures) .1))
+    ((at-start .pre) .zone, (at-start .pre) .events-listed, (at-start .pre) .few, subst (Placed ((at-start .args .book) .now)) ((at-g .g .given) .1) ((at-point .point .ensures) .1))
 
 returns : tie.Need-returns
 returns c =
@@ -32,7 +29,7 @@ returns c =
     let at-enum-told = at-tell-missing .before .before in
     let at-point = at-enum-told .before .before in
     let at-start = at-point .before .before .before .before .before .before .before .before .before in
-    lent-same (at-tell-missing .tell-missing .ensures) refl (one-form _ ∙ ap ((λ (o : Option Held). encodeAll (toldHeld (zoneOf ((at-start .args .h) .first) ((at-start .args .ats) .now) ((at-start .args .offsets) .now)) (map (eventAt ((at-start .args .book) .now)) ((at-start .args .events) .now)) ((at-start .args .t) .0) (Between ((at-start .args .h) .start) ((at-start .args .h) .end)) o))) (ap (held ((at-start .args .book) .now)) (sym ((at-enum-told .enum-told .given) .1)) ∙ (at-point .point .ensures) .0))
+    lent-same (at-tell-missing .tell-missing .ensures) refl (one-form _ ∙ ap ((λ (o : Option Held). encodeAll (toldHeld (valuesAt ((at-start .args .book) .now) (at-start .args .h) ((at-start .args .ats) .now) ((at-start .args .offsets) .now) ((at-start .args .rules) .now) ((at-start .args .events) .now)) (Between ((at-start .args .h) .start) ((at-start .args .h) .end)) ((at-start .args .t) .0) o))) (ap (held ((at-start .args .book) .now)) (sym ((at-enum-told .enum-told .given) .1)) ∙ (at-point .point .ensures) .0))
 
 returns-2 : tie.Need-returns-2
 returns-2 c =
@@ -40,7 +37,7 @@ returns-2 c =
     let at-g = at-tell-known .before .before .before in
     let at-point = at-g .before .before in
     let at-start = at-point .before .before .before .before .before .before .before .before .before in
-    lent-same (at-tell-known .tell-known .ensures) refl (ap ((λ (o : Option Held). encodeAll (toldHeld (zoneOf ((at-start .args .h) .first) ((at-start .args .ats) .now) ((at-start .args .offsets) .now)) (map (eventAt ((at-start .args .book) .now)) ((at-start .args .events) .now)) ((at-start .args .t) .0) (Between ((at-start .args .h) .start) ((at-start .args .h) .end)) o))) (ap (held ((at-start .args .book) .now)) (sym ((at-g .g .given) .1)) ∙ (at-point .point .ensures) .0))
+    lent-same (at-tell-known .tell-known .ensures) refl (ap ((λ (o : Option Held). encodeAll (toldHeld (valuesAt ((at-start .args .book) .now) (at-start .args .h) ((at-start .args .ats) .now) ((at-start .args .offsets) .now) ((at-start .args .rules) .now) ((at-start .args .events) .now)) (Between ((at-start .args .h) .start) ((at-start .args .h) .end)) ((at-start .args .t) .0) o))) (ap (held ((at-start .args .book) .now)) (sym ((at-g .g .given) .1)) ∙ (at-point .point .ensures) .0))
 
 pub tell-venue-spec : {M : Type 1} → statement M
 tell-venue-spec =

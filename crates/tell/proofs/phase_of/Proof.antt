@@ -1,26 +1,26 @@
 use Prim.Native.Nat.{_-_}
 use borrow.Author.Needs.{needs}
-use Rattle.point.proofs.tell.phase_of.Statement.{statement}
-use Rattle.point.proofs.tell.phase_of.Tie as tie
+use Rattle.tell.proofs.phase_of.Statement.{statement}
+use Rattle.tell.proofs.phase_of.Tie as tie
 
 rule-code-requires : tie.Need-rule-code-requires
 rule-code-requires c κs =
-    let at-start = c .before .before .before .before .before .before in
+    let at-start = c .before .before .before .before in
     (at-start .pre)
 
 rule-label-requires : tie.Need-rule-label-requires
 rule-label-requires c κs =
-    let at-start = c .before .before .before .before .before .before .before in
+    let at-start = c .before .before .before .before .before in
     (at-start .pre)
 
 rule-evidence-requires : tie.Need-rule-evidence-requires
 rule-evidence-requires c κs =
-    let at-start = c .before .before .before .before .before .before .before .before in
+    let at-start = c .before .before .before .before .before .before in
     (at-start .pre)
 
 rule-derived-requires : tie.Need-rule-derived-requires
 rule-derived-requires c κs =
-    let at-start = c .before .before .before .before .before .before .before .before .before in
+    let at-start = c .before .before .before .before .before .before .before in
     (at-start .pre)
 
 returns : tie.Need-returns

@@ -7,8 +7,8 @@ use Prim.Native.Nat.{_-_}
 use mathlib.Core.Path.{refl, sym, subst}
 use native.Mathlib.Omega.{arith}
 use borrow.Author.Needs.{needs}
-use Rattle.point.proofs.tell.tell_missing.Statement.{statement}
-use Rattle.point.proofs.tell.tell_missing.Tie as tie
+use Rattle.point.proofs.reply.tell_missing.Statement.{statement}
+use Rattle.point.proofs.reply.tell_missing.Tie as tie
 
 returns : tie.Need-returns
 returns c =

@@ -1,0 +1,162 @@
+// Each answer is sized before its first byte is written.
+ghost use Prim.Native.Nat.{_≤_};
+ghost use mathlib.Core.List.{map};
+ghost use lib.ListN.{length};
+ghost use Rattle.zone.specs.Zone.{zoneOf};
+ghost use Rattle.zone.specs.Answers.{Valid};
+ghost use Rattle.records.specs.Records.{eventAt};
+ghost use Rattle.venue.specs.Reading.{Listed, AllListed};
+ghost use Rattle.venue.specs.Filled.{Filled, Ready};
+ghost use Rattle.day.specs.Meaning.{heldBy, valuesAt};
+ghost use Rattle.answer.specs.Forms.{point as Forms·point, encode, encodeAll};
+ghost use Rattle.answer.specs.Meaning.{missingOf};
+ghost use Rattle.answer.specs.declared.Covered.the-variants.{Between};
+ghost use Rattle.lend.specs.Lending.{Lent};
+ghost use Rattle.tell.specs.Shown.{shown, shownForms};
+ghost use Rattle.point.specs.Asking.{pointNumber, pointAnswer};
+ghost use Rattle.point.specs.Private.{told};
+use answer::Covered;
+use answer::EVENT_BYTES;
+use answer::MISSING_BYTES;
+use answer::PHASE_BYTES;
+use answer::put_missing;
+use answer::put_phase;
+use book::MOST_EVENTS;
+use book::MOST_RULES;
+use book::MOST_TRANSITIONS;
+use day::Segment;
+use day::Spanned;
+use day::point;
+use events::search_events;
+use lend::Reply;
+use lend::answered;
+use lend::refused;
+use query::Asked;
+use query::OUTSIDE;
+use query::asked_at;
+use tell::phase_of;
+use tell::put_events;
+use venue::Header;
+use venue::Opened;
+use venue::open;
+use zone::Instant;
+
+const NO_ROOM: u32 = 16;
+
+fn tell_missing(out: &mut [u8], t: Instant, c: Covered) -> Reply
+    ensures { λ r. ⌜ Lent 0 (encode (Forms·point (missingOf (t .0) c))) (now (out .entry)) (now (out .exit)) r ⌝ }
+{
+    if out.len() < MISSING_BYTES {
+        return refused(NO_ROOM);
+    }
+    let n = put_missing(out, 0, t, c);
+    answered(n)
+}
+
+fn tell_known(
+    book: &[u8],
+    first: u32,
+    ats: &[u64],
+    offsets: &[u32],
+    events: &[u32],
+    g: Segment,
+    out: &mut [u8],
+) -> Reply
+    requires { ⌜ Valid first (now ats) (now offsets) × AllListed 4 (now book) (now events) × (length (now events) ≤ 32)
+        × Listed 3 (now book) (g .rule) ⌝ }
+    ensures { λ r. ⌜ Lent 0
+        (encodeAll (shownForms (g .start .at .0) (g .end .at .0) (shown (zoneOf first (now (ats .entry)) (now (offsets .entry))) (map (eventAt (now (book .entry))) (now (events .entry))) (heldBy (now (book .entry)) g))))
+        (now (out .entry)) (now (out .exit)) r ⌝ }
+{
+    let start = g.start;
+    let end = g.end;
+    let from = start.at;
+    let to = end.at;
+    let s = search_events(book, first, ats, offsets, events, from, to, Instant(0), 0);
+    let count = s.count;
+    let length = PHASE_BYTES + EVENT_BYTES * count;
+    if out.len() < length {
+        return refused(NO_ROOM);
+    }
+    let at = put_phase(out, 0, phase_of(book, g, from, to, count as u32));
+    let n = put_events(book, first, ats, offsets, events, from, to, out, at);
+    answered(n)
+}
+
+// Of an opened book.
+fn tell_venue(
+    book: &[u8],
+    h: Header,
+    ats: &[u64],
+    offsets: &[u32],
+    rules: &[u32],
+    events: &[u32],
+    t: Instant,
+    out: &mut [u8],
+) -> Reply
+    requires { ⌜ Ready (now book) (h .first) (now ats) (now offsets) (now rules) (now events) ⌝ }
+    ensures { λ r. ⌜ Lent 0
+        (encodeAll (told (valuesAt (now (book .entry)) h (now (ats .entry)) (now (offsets .entry)) (now (rules .entry)) (now (events .entry))) (Between (h .start) (h .end)) (t .0)))
+        (now (out .entry)) (now (out .exit)) r ⌝ }
+{
+    let start = h.start;
+    let end = h.end;
+    let first = h.first;
+    match point(book, start, end, first, ats, offsets, rules, t) {
+        Spanned::Missing => tell_missing(out, t, Covered::Between(start, end)),
+        Spanned::Whole(g) => tell_known(book, first, ats, offsets, events, g, out),
+    }
+}
+
+// By what opening answered, and what it stored.
+fn tell_opened(
+    book: &[u8],
+    opened: Opened,
+    ats: &[u64],
+    offsets: &[u32],
+    rules: &[u32],
+    events: &[u32],
+    at: i64,
+    out: &mut [u8],
+) -> Reply
+    requires { ⌜ Filled (now book) opened (now ats) (now offsets) (now rules) (now events) ⌝ }
+    ensures { λ r. ⌜ Lent (pointNumber (now (book .entry)) at) (pointAnswer (now (book .entry)) at) (now (out .entry)) (now (out .exit)) r ⌝ }
+{
+    match opened {
+        Opened::Refused(n) => refused(n),
+        Opened::Empty => match asked_at(at) {
+            Asked::Outside => refused(OUTSIDE),
+            Asked::At(t) => tell_missing(out, t, Covered::Nothing),
+        },
+        Opened::Venue(h) => match asked_at(at) {
+            Asked::Outside => refused(OUTSIDE),
+            Asked::At(t) => {
+                let transitions = h.transitions;
+                let many_rules = h.rules;
+                let many_events = h.events;
+                tell_venue(
+                    book,
+                    h,
+                    &ats[..transitions],
+                    &offsets[..transitions],
+                    &rules[..many_rules],
+                    &events[..many_events],
+                    t,
+                    out,
+                )
+            }
+        },
+    }
+}
+
+// The answer to a point query: any book, any instant, any room.
+pub fn point_answer(book: &[u8], at: i64, out: &mut [u8]) -> Reply
+    ensures { λ r. ⌜ Lent (pointNumber (now (book .entry)) at) (pointAnswer (now (book .entry)) at) (now (out .entry)) (now (out .exit)) r ⌝ }
+{
+    let mut ats = [0u64; MOST_TRANSITIONS];
+    let mut offsets = [0u32; MOST_TRANSITIONS];
+    let mut rules = [0u32; MOST_RULES];
+    let mut events = [0u32; MOST_EVENTS];
+    let opened = open(book, &mut ats, &mut offsets, &mut rules, &mut events);
+    tell_opened(book, opened, &ats, &offsets, &rules, &events, at, out)
+}

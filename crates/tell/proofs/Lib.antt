@@ -1,0 +1,2 @@
+pub mod Trailing
+pub mod Showing

@@ -1,0 +1,49 @@
+-- A span of a date as records: kind 16 with its kinds 18 behind it. Assumes nothing.
+use Prim.Native.Nat.{ℕ}
+use mathlib.Core.List.{List, _∷_, map}
+use lib.ListN.{length}
+use Rattle.zone.specs.Zone.{Zone}
+use Rattle.zone.specs.Units.{instantNumber}
+use Rattle.zone.specs.Answers.{values}
+use Rattle.zone.specs.declared.Uncertainty.{Uncertainty}
+use Rattle.records.specs.Records.{Event}
+use Rattle.day.specs.Days.{Held, whole as wholeOf}
+use Rattle.events.specs.Happenings.{eventsIn}
+use Rattle.events.specs.declared.Occurrence.{Occurrence}
+use Rattle.answer.specs.Forms as Forms
+use Rattle.answer.specs.Forms.{Form, phase, event}
+use Rattle.answer.specs.Meaning.{sideOf, eventOf}
+
+-- what a phase segment shows: two boundaries, a phase and a rule, the whole uncertainty, the events. Of segments that were joined, the
+-- first start boundary and rule, the last end boundary, the widest uncertainty and all events
+pub record Shown : Type 0 where
+  pub held : Held
+  pub whole : Uncertainty
+  pub events : List Occurrence
+
+-- of a span of a date
+abbrev pub shown : Zone → List Event → Held → Shown
+shown z es h = record { held = h; whole = wholeOf h; events = eventsIn z es (h .start .at .0) (h .end .at .0) }
+
+-- kind 16, from `from` to before `to`, with n events behind it
+abbrev pub headForm : ℕ → ℕ → Held → Uncertainty → ℕ → Forms.Phase
+headForm from to h u n =
+    record {
+      start = instantNumber from;
+      end = instantNumber to;
+      phase = h .phase;
+      code = h .rule .code;
+      label = h .rule .label;
+      evidence = h .rule .evidence;
+      derived = h .rule .derived;
+      from = sideOf (h .start);
+      to = sideOf (h .end);
+      whole = values u;
+      events = n;
+    }
+
+abbrev pub eventForm : Occurrence → Form
+eventForm o = event (eventOf (o .code) (o .boundary) (o .evidence))
+
+abbrev pub shownForms : ℕ → ℕ → Shown → List Form
+shownForms from to x = phase (headForm from to (x .held) (x .whole) (length (x .events))) ∷ map eventForm (x .events)

@@ -1,0 +1,94 @@
+// What a span of a date is as records: its phase, and its events behind it.
+ghost use Prim.Native.Nat.{_*_, _≤_};
+ghost use mathlib.Core.Path.{_≡_};
+ghost use mathlib.Core.List.{map};
+ghost use lib.ListN.{length};
+ghost use Rattle.wire.specs.Fields.{Inside, Put};
+ghost use Rattle.zone.specs.Zone.{zoneOf};
+ghost use Rattle.zone.specs.Answers.{Valid};
+ghost use Rattle.records.specs.Records.{eventAt};
+ghost use Rattle.venue.specs.Reading.{Listed, AllListed};
+ghost use Rattle.day.specs.Days.{whole};
+ghost use Rattle.day.specs.Meaning.{heldBy};
+ghost use Rattle.events.specs.Happenings.{found, eventsIn};
+ghost use Rattle.answer.specs.Forms.{encodeAll};
+ghost use Rattle.answer.specs.Meaning.{phaseOf};
+ghost use Rattle.tell.specs.Shown.{headForm, eventForm};
+use answer::Phase;
+use answer::put_event;
+use day::Segment;
+use events::Best;
+use events::search_events;
+use venue::rule_code;
+use venue::rule_derived;
+use venue::rule_evidence;
+use venue::rule_label;
+use zone::Instant;
+use zone::widest;
+
+// A segment's record, shown from `from` to before `to`, with so many events behind it.
+pub fn phase_of(book: &[u8], g: Segment, from: Instant, to: Instant, events: u32) -> Phase
+    requires { ⌜ Listed 3 (now book) (g .rule) ⌝ }
+    ensures { λ r. ⌜ phaseOf r ≡ headForm (from .0) (to .0) (heldBy (now (book .entry)) g) (whole (heldBy (now (book .entry)) g)) events ⌝ }
+{
+    let rule = g.rule as usize;
+    let start = g.start;
+    let end = g.end;
+    let before = start.uncertainty;
+    let behind = end.uncertainty;
+    Phase {
+        start: from,
+        end: to,
+        phase: g.phase,
+        code: rule_code(book, rule),
+        label: rule_label(book, rule),
+        evidence: rule_evidence(book, rule),
+        derived: rule_derived(book, rule),
+        from: start,
+        to: end,
+        whole: widest(before, behind),
+        events,
+    }
+}
+
+// The events of a span, one after the other, from `at` on. Answers the place behind them.
+pub fn put_events(
+    book: &[u8],
+    first: u32,
+    ats: &[u64],
+    offsets: &[u32],
+    events: &[u32],
+    from: Instant,
+    to: Instant,
+    out: &mut [u8],
+    at: usize,
+) -> usize
+    requires { ⌜ Valid first (now ats) (now offsets) × AllListed 4 (now book) (now events) × (length (now events) ≤ 32)
+        × Inside at (35 * length (found (zoneOf first (now ats) (now offsets)) (map (eventAt (now book)) (now events)) (from .0) (to .0))) (now out) ⌝ }
+    ensures { λ r. ⌜ Put (now (out .entry)) at
+        (encodeAll (map eventForm (eventsIn (zoneOf first (now (ats .entry)) (now (offsets .entry))) (map (eventAt (now (book .entry))) (now (events .entry))) (from .0) (to .0))))
+        (35 * length (found (zoneOf first (now (ats .entry)) (now (offsets .entry))) (map (eventAt (now (book .entry))) (now (events .entry))) (from .0) (to .0)))
+        (now (out .exit)) r ⌝ }
+{
+    let s = search_events(book, first, ats, offsets, events, from, to, Instant(0), 0);
+    let count = s.count;
+    let mut best = s.best;
+    let mut place = at;
+    let mut i: usize = 0;
+    while i < count {
+        match best {
+            Best::None => {
+                return place;
+            }
+            Best::Some(o, index) => {
+                let boundary = o.boundary;
+                let t = boundary.at;
+                place = put_event(out, place, o.code, boundary, o.evidence);
+                let next = search_events(book, first, ats, offsets, events, from, to, t, index + 1);
+                best = next.best;
+            }
+        }
+        i += 1;
+    }
+    place
+}
