@@ -44,7 +44,7 @@ fn raised(before: Boundary, own: Boundary) -> Boundary
 }
 
 // The midnight that ends a date. Past the dates in use all dates convert alike.
-fn midnight_after(
+pub fn midnight_after(
     first: u32,
     ats: &[u64],
     offsets: &[u32],

@@ -6,6 +6,7 @@ mod govern;
 
 pub use ask::day_span_after;
 pub use ask::point;
+pub use cut::midnight_after;
 pub use cut::span_after;
 pub use govern::governing;
 use zone::Boundary;

@@ -25,7 +25,7 @@ sweep {A} hi cursor (s ∷ ss) =
     cond (ltb a b) kept passed
 
 module _ {A : Type 0} where
-  clip-from : (a b x y hi : ℕ) (ss : List (Span A)) → x ≤ a → y ≤ a → Within a b ss → clip x hi ss ≡ clip y hi ss
+  pub clip-from : (a b x y hi : ℕ) (ss : List (Span A)) → x ≤ a → y ≤ a → Within a b ss → clip x hi ss ≡ clip y hi ss
   unfolding clip
   clip-from a b x y hi [] h i w = refl
   clip-from a b x y hi (s ∷ ss) h i w =

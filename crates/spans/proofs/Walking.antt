@@ -16,7 +16,7 @@ use Rattle.spans.proofs.Lists.{append, keep-within, clip-within, reach-
 
 module _ {A : Type 0} (v : Venue A) where
   -- a date's spans are in order
-  cut-within : (r : Rule) (s : Edge) (p : ℕ) (qs : List Point) → (b : ℕ) × Within (s .at) b (cut v r s p qs)
+  pub cut-within : (r : Rule) (s : Edge) (p : ℕ) (qs : List Point) → (b : ℕ) × Within (s .at) b (cut v r s p qs)
   unfolding cut
   cut-within r s p [] =
       let e = raised v (s .at) (suc (s .date)) 0 in

@@ -3,8 +3,6 @@ use Prim.Native.Nat.{ℕ}
 use mathlib.Core.List.{List, _∷_, map}
 use lib.ListN.{length}
 use Rattle.zone.specs.Zone.{Zone}
-use Rattle.zone.specs.Units.{instantNumber}
-use Rattle.zone.specs.Answers.{values}
 use Rattle.zone.specs.declared.Uncertainty.{Uncertainty}
 use Rattle.records.specs.Records.{Event}
 use Rattle.day.specs.Days.{Held, whole as wholeOf}
@@ -12,7 +10,8 @@ use Rattle.events.specs.Happenings.{eventsIn}
 use Rattle.events.specs.declared.Occurrence.{Occurrence}
 use Rattle.answer.specs.Forms as Forms
 use Rattle.answer.specs.Forms.{Form, phase, event}
-use Rattle.answer.specs.Meaning.{sideOf, eventOf}
+use Rattle.answer.specs.Meaning.{phaseOf, eventOf}
+use Rattle.answer.specs.declared.Phase.{Phase}
 
 -- what a phase segment shows: two boundaries, a phase and a rule, the whole uncertainty, the events. Of segments that were joined, the
 -- first start boundary and rule, the last end boundary, the widest uncertainty and all events
@@ -25,22 +24,25 @@ pub record Shown : Type 0 where
 abbrev pub shown : Zone → List Event → Held → Shown
 shown z es h = record { held = h; whole = wholeOf h; events = eventsIn z es (h .start .at .0) (h .end .at .0) }
 
--- kind 16, from `from` to before `to`, with n events behind it
-abbrev pub headForm : ℕ → ℕ → Held → Uncertainty → ℕ → Forms.Phase
-headForm from to h u n =
+-- its record from `from` to before `to`, with n events behind it: as the code holds it, and as kind 16
+abbrev pub headOf : ℕ → ℕ → Held → Uncertainty → ℕ → Phase
+headOf from to h u n =
     record {
-      start = instantNumber from;
-      end = instantNumber to;
+      start = record { 0 = from };
+      end = record { 0 = to };
       phase = h .phase;
       code = h .rule .code;
       label = h .rule .label;
       evidence = h .rule .evidence;
       derived = h .rule .derived;
-      from = sideOf (h .start);
-      to = sideOf (h .end);
-      whole = values u;
+      from = h .start;
+      to = h .end;
+      whole = u;
       events = n;
     }
+
+abbrev pub headForm : ℕ → ℕ → Held → Uncertainty → ℕ → Forms.Phase
+headForm from to h u n = phaseOf (headOf from to h u n)
 
 abbrev pub eventForm : Occurrence → Form
 eventForm o = event (eventOf (o .code) (o .boundary) (o .evidence))

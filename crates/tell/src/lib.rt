@@ -12,8 +12,7 @@ ghost use Rattle.day.specs.Days.{whole};
 ghost use Rattle.day.specs.Meaning.{heldBy};
 ghost use Rattle.events.specs.Happenings.{found, eventsIn};
 ghost use Rattle.answer.specs.Forms.{encodeAll};
-ghost use Rattle.answer.specs.Meaning.{phaseOf};
-ghost use Rattle.tell.specs.Shown.{headForm, eventForm};
+ghost use Rattle.tell.specs.Shown.{headOf, eventForm};
 use answer::Phase;
 use answer::put_event;
 use day::Segment;
@@ -29,7 +28,7 @@ use zone::widest;
 // A segment's record, shown from `from` to before `to`, with so many events behind it.
 pub fn phase_of(book: &[u8], g: Segment, from: Instant, to: Instant, events: u32) -> Phase
     requires { ⌜ Listed 3 (now book) (g .rule) ⌝ }
-    ensures { λ r. ⌜ phaseOf r ≡ headForm (from .0) (to .0) (heldBy (now (book .entry)) g) (whole (heldBy (now (book .entry)) g)) events ⌝ }
+    ensures { λ r. ⌜ r ≡ headOf (from .0) (to .0) (heldBy (now (book .entry)) g) (whole (heldBy (now (book .entry)) g)) events ⌝ }
 {
     let rule = g.rule as usize;
     let start = g.start;

@@ -1,5 +1,6 @@
+use Rattle.answer.specs.Meaning.{phaseOf}
 use native.Mathlib.Omega.{arith}
-use mathlib.Core.Path.{_≡_, refl}
+use mathlib.Core.Path.{_≡_, refl, ap}
 use Prim.Native.Nat.{_-_}
 use mathlib.Core.List.{map}
 use lib.ListN.{length}
@@ -77,7 +78,7 @@ returns-2 c =
     let x : Shown = (shown (zoneOf (at-start .args .first) ((at-start .args .ats) .now) ((at-start .args .offsets) .now)) (map (eventAt ((at-start .args .book) .now)) ((at-start .args .events) .now)) (heldBy ((at-start .args .book) .now) (at-start .args .g))) in
     let e = begun-count 0 0 (found (zoneOf (at-start .args .first) ((at-start .args .ats) .now) ((at-start .args .offsets) .now)) (map (eventAt ((at-start .args .book) .now)) ((at-start .args .events) .now)) ((at-start .args .g) .start .at .0) ((at-start .args .g) .end .at .0)) (at-search-events .search-events .ensures .0) in
     let n : (at-search-events .search-events .result) .count ≡ length (x .events) = omega (arith, e, length-sorted os) in
-    let w = shown-put ((at-start .args .g) .start .at .0) ((at-start .args .g) .end .at .0) x n (at-phase-of .phase-of .ensures) (at-put-phase .put-phase .ensures) (at-put-events .put-events .ensures) (omega (arith, e, (at-if1 .if1 .left))) in
+    let w = shown-put ((at-start .args .g) .start .at .0) ((at-start .args .g) .end .at .0) x n (ap phaseOf (at-phase-of .phase-of .ensures)) (at-put-phase .put-phase .ensures) (at-put-events .put-events .ensures) (omega (arith, e, (at-if1 .if1 .left))) in
     lent-reply (lent-written (encodeAll (shownForms ((at-start .args .g) .start .at .0) ((at-start .args .g) .end .at .0) x)) _ refl (omega (arith, e, (at-if1 .if1 .left), w .many)) (w .same) (omega (arith, w .behind, w .many))) (at-answered .answered .ensures)
 
 pub tell-known-spec : {M : Type 1} → statement M

@@ -1,0 +1,137 @@
+-- The walk, one span after the other: a date's boundaries, where the walk stands, and what is left of it. Assumes nothing.
+use Prim.Native.Nat.{ℕ, suc, _+_, _≤_, _<_, min, max}
+use mathlib.Core.Path.{_≡_}
+use mathlib.Core.Bool.{cond}
+use mathlib.Core.List.{List, [], _∷_, _++_, map}
+use mathlib.Core.Option.{none}
+use lib.Dec.{ltb}
+use lib.ListN.{length, getD, take, drop}
+use Rattle.zone.specs.Zone.{Zone}
+use Rattle.zone.specs.Units.{dayNs, mostNs}
+use Rattle.records.specs.Records.{Point, Rule, ruleAt}
+use Rattle.venue.specs.Reading.{Listed}
+use Rattle.venue.specs.Reading as Reading
+use Rattle.spans.specs.Spans.{Span, clip, reach}
+use Rattle.spans.specs.Timeline.{Edge, Venue, midnight, raised, cut, walk}
+use Rattle.day.specs.Days.{Held, venueBy}
+use Rattle.day.specs.declared.Governed.{Governed}
+use Rattle.day.specs.declared.Governed.the-variants.{Nothing, By}
+use Rattle.walk.specs.declared.Walk.{Walk}
+use Rattle.walk.specs.declared.Piece.{Piece}
+use Rattle.walk.specs.declared.Pulled.{Pulled}
+use Rattle.walk.specs.declared.Pulled.the-variants.{Done, Next}
+
+-- ---- a date's boundaries
+
+-- from s on: each next point's, then the next midnight's, each raised to the one before
+unfoldable pub edgesFrom : {A : Type 0} → Venue A → Edge → List Point → List Edge
+edgesFrom v s [] = s ∷ raised v (s .at) (suc (s .date)) 0 ∷ []
+edgesFrom v s (q ∷ qs) = s ∷ edgesFrom v (raised v (s .at) (s .date) (q .time)) qs
+
+abbrev pub edges : {A : Type 0} → Venue A → ℕ → List Point → List Edge
+edges v d [] = []
+edges v d (p ∷ ps) = edgesFrom v (raised v 0 d (p .time)) ps
+
+-- a rule's boundaries do not ask which rule governs
+abbrev pub ruleEdges : Zone → Rule → ℕ → List Edge
+ruleEdges z r d = edges (venueBy z (λ x. none)) d (r .points)
+
+abbrev pub edgeInstants : Zone → Rule → ℕ → List ℕ
+edgeInstants z r d = map (λ (e : Edge). e .at) (ruleEdges z r d)
+
+-- ---- what is left
+
+-- the spans of a date from a boundary on
+abbrev pub spansFrom : Zone → Rule → List Edge → List Point → List (Span Held)
+spansFrom z r [] ps = []
+spansFrom z r (e ∷ es) [] = []
+spansFrom z r (e ∷ es) (p ∷ ps) = cut (venueBy z (λ x. none)) r e (p .phase) ps
+
+-- of a date, from its k-th span on
+abbrev pub onDate : List ℕ → Zone → ℕ → ℕ → Governed → List (Span Held)
+onDate s z d k Nothing = []
+onDate s z d k (By p) = let r = ruleAt s p in spansFrom z r (drop k (ruleEdges z r d)) (drop k (r .points))
+
+-- where a turn leads that shows no more spans: to the end of its last one, or where it had none to the next midnight
+abbrev pub onward : {A : Type 0} → Venue A → ℕ → Walk → ℕ
+onward v hi w = cond (ltb (w .began .0) (w .cursor .0)) (w .cursor .0) (min hi (midnight v (suc (w .date .0))))
+
+-- of the date's spans, and of the turns after it
+abbrev pub restWith : {A : Type 0} → Venue A → ℕ → Walk → List (Span A) → List (Span A)
+restWith v hi w here =
+    here ++ (let next = reach (onward v hi w) here in cond (ltb (w .began .0) next) (walk v hi (w .turns) next) [])
+
+unfoldable pub rest : List ℕ → Zone → Venue Held → ℕ → Walk → List (Span Held)
+rest s z v hi w = restWith v hi w (clip (w .cursor .0) hi (onDate s z (w .date .0) (w .next) (w .governed)))
+
+-- ---- where the walk stands
+
+-- the first boundaries of an array are those of a date
+abbrev pub Kept : List ℕ → Zone → ℕ → ℕ → Governed → List ℕ → Type 0
+Kept s z d k Nothing a = Unit {0}
+Kept s z d k (By p) a =
+    Listed 3 s p × (k ≤ length (ruleAt s p .points)) × (take (length (edgeInstants z (ruleAt s p) d)) a ≡ edgeInstants z (ruleAt s p) d)
+
+pub record Stands (s : List ℕ) (z : Zone) (w : Walk) (a : List ℕ) : Type 0 where
+  pub kept : Kept s z (w .date .0) (w .next) (w .governed) a
+  pub forward : w .began .0 ≤ w .cursor .0
+
+-- ---- a piece: a span of a date, and what of it shows
+
+abbrev pub ruleOf : List ℕ → Piece → Rule
+ruleOf s q = ruleAt s (q .rule)
+
+abbrev pub pointOf : List ℕ → Piece → ℕ → Point
+pointOf s q i = getD (ruleOf s q .points) i Reading.midnight
+
+abbrev pub startEdge : List ℕ → Piece → Edge
+startEdge s q = record { date = q .date .0; time = pointOf s q (q .point) .time; at = q .start .0 }
+
+abbrev pub endEdge : List ℕ → Piece → Edge
+endEdge s q =
+    cond (ltb (q .point + 1) (length (ruleOf s q .points)))
+    (record { date = q .date .0; time = pointOf s q (q .point + 1) .time; at = q .end .0 })
+    (record { date = suc (q .date .0); time = 0; at = q .end .0 })
+
+-- what its span holds
+abbrev pub heldIn : List ℕ → Zone → Piece → Held
+heldIn s z q = venueBy z (λ x. none) .body (ruleOf s q) (startEdge s q) (pointOf s q (q .point) .phase) (endEdge s q)
+
+abbrev pub shownPart : List ℕ → Zone → Piece → Span Held
+shownPart s z q = record { from = q .from .0; to = q .to .0; body = heldIn s z q }
+
+-- a date's spans are within 16 hours of it
+abbrev pub spanNs : ℕ
+spanNs = dayNs + mostNs + mostNs
+
+-- a rule and its point stand where a piece says, and its span is not long
+pub record Fits (s : List ℕ) (q : Piece) : Type 0 where
+  pub listed : Listed 3 s (q .rule)
+  pub point : q .point < length (ruleOf s q .points)
+  pub shows : q .from .0 < q .to .0
+  pub short : q .end .0 ≤ q .start .0 + spanNs
+
+-- of the spans between n + 1 boundaries, r is the first from the k-th on that shows between the cursor and hi; n where none does
+pub record Showing (a : List ℕ) (k n cursor hi r : ℕ) : Type 0 where
+  pub from : k ≤ r
+  pub most : r ≤ n
+  pub hidden : (j : ℕ) → k ≤ j → j < r → min hi (getD a (j + 1) 0) ≤ max cursor (getD a j 0)
+  pub shown : r < n → max cursor (getD a r 0) < min hi (getD a (r + 1) 0)
+
+-- ---- a turn begins
+
+pub record Begun (s : List ℕ) (z : Zone) (v : Venue Held) (turns cursor : ℕ) (w : Walk) (a : List ℕ) : Type 0 where
+  pub left : w .turns ≡ turns
+  pub stands : Stands s z w a
+  pub all : (hi : ℕ) → rest s z v hi w ≡ walk v hi (suc turns) cursor
+
+-- ---- a step of the walk: nothing is left, or a piece comes first and the walk stands behind it
+
+pub record Comes (s : List ℕ) (z : Zone) (v : Venue Held) (hi : ℕ) (w : Walk) (q : Piece) (w′ : Walk) (a : List ℕ) : Type 0 where
+  pub first : rest s z v hi w ≡ shownPart s z q ∷ rest s z v hi w′
+  pub fits : Fits s q
+  pub stands : Stands s z w′ a
+
+abbrev pub Found : List ℕ → Zone → Venue Held → ℕ → Walk → Pulled → List ℕ → Type 0
+Found s z v hi w Done a = rest s z v hi w ≡ []
+Found s z v hi w (Next q w′) a = Comes s z v hi w q w′ a

@@ -1,0 +1,45 @@
+// The walk over the covered part of a window, one span after the other.
+
+mod step;
+mod turn;
+
+use calendar::Day;
+use day::Governed;
+pub use step::pull;
+pub use step::segment;
+pub use turn::begin;
+use zone::Instant;
+
+// One more boundary than a rule can have points.
+pub const MOST_BOUNDARIES: usize = 17;
+
+// The most turns that a walk takes.
+pub const MOST_TURNS: u32 = 3_660;
+
+// Where a walk stands: how many turns are left after this one, the cursor as the turn began and as it is now, the turn's date, the rule
+// that governs it, and which of the date's spans is next.
+pub struct Walk {
+    pub turns: u32,
+    pub began: Instant,
+    pub cursor: Instant,
+    pub date: Day,
+    pub governed: Governed,
+    pub next: usize,
+}
+
+// What shows of a date's span, from `from` to before `to`; and the span, from `start` to before `end`, by a point of a rule.
+pub struct Piece {
+    pub from: Instant,
+    pub to: Instant,
+    pub start: Instant,
+    pub end: Instant,
+    pub date: Day,
+    pub rule: u32,
+    pub point: usize,
+}
+
+// The next piece of a walk, and where the walk stands behind it.
+pub enum Pulled {
+    Done,
+    Next(Piece, Walk),
+}

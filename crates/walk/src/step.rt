@@ -1,0 +1,172 @@
+// The next piece of a walk. The passes over a walk that size, write and count all take their steps here.
+ghost use mathlib.Core.Path.{_≡_};
+ghost use mathlib.Core.List.{map};
+ghost use mathlib.Core.Option.{none};
+ghost use Prim.Native.Nat.{_≤_, _<_};
+ghost use lib.ListN.{length};
+ghost use Rattle.zone.specs.Zone.{zoneOf};
+ghost use Rattle.zone.specs.Answers.{Valid};
+ghost use Rattle.records.specs.Records.{ruleAt};
+ghost use Rattle.day.specs.Governing.{governing as Governing·governing};
+ghost use Rattle.day.specs.Days.{venueBy};
+ghost use Rattle.day.specs.Meaning.{heldBy};
+ghost use Rattle.venue.specs.Reading.{AllListed};
+ghost use Rattle.walk.specs.Walking.{onward as Walking·onward, Stands, Fits, heldIn, Showing, Found};
+use crate::MOST_BOUNDARIES;
+use crate::Piece;
+use crate::Pulled;
+use crate::Walk;
+use crate::turn::begin;
+use day::Governed;
+use day::Segment;
+use day::midnight_after;
+use spans::earlier;
+use spans::later;
+use venue::point_phase;
+use venue::point_time;
+use venue::rule_points;
+use venue::rule_uncertainty;
+use zone::Boundary;
+use zone::Instant;
+use zone::Uncertainty;
+use zone::to_utc_at;
+
+// Of the spans between n + 1 boundaries, the first from the k-th on that shows between the cursor and `hi`; n where none does.
+fn showing(edges: &[u64], k: usize, n: usize, cursor: Instant, hi: Instant) -> usize
+    requires { ⌜ (k ≤ n) × (n < length (now edges)) ⌝ }
+    ensures { λ r. ⌜ Showing (now (edges .entry)) k n (cursor .0) (hi .0) r ⌝ }
+{
+    let mut i = k;
+    while i < n {
+        if later(cursor.0, edges[i]) < earlier(hi.0, edges[i + 1]) {
+            return i;
+        }
+        i += 1;
+    }
+    n
+}
+
+// Where a turn leads that shows no more spans.
+fn onward(first: u32, ats: &[u64], offsets: &[u32], hi: Instant, w: Walk) -> Instant
+    requires { ⌜ Valid first (now ats) (now offsets) ⌝ }
+    ensures { λ r. ⌜ r .0 ≡ Walking·onward (venueBy (zoneOf first (now (ats .entry)) (now (offsets .entry))) (λ x. none)) (hi .0) w ⌝ }
+{
+    let began = w.began;
+    let cursor = w.cursor;
+    if began.0 < cursor.0 {
+        return cursor;
+    }
+    let date = w.date;
+    let midnight = midnight_after(first, ats, offsets, date, Uncertainty::Exact);
+    let at = midnight.at;
+    Instant(earlier(hi.0, at.0))
+}
+
+pub fn pull(
+    book: &[u8],
+    first: u32,
+    ats: &[u64],
+    offsets: &[u32],
+    rules: &[u32],
+    edges: &mut [u64; MOST_BOUNDARIES],
+    hi: Instant,
+    from: Walk,
+) -> Pulled
+    requires { ⌜ Valid first (now ats) (now offsets) × AllListed 3 (now book) (now rules)
+        × Stands (now book) (zoneOf first (now ats) (now offsets)) from (now edges) ⌝ }
+    ensures { λ r. ⌜ Found (now (book .entry)) (zoneOf first (now (ats .entry)) (now (offsets .entry)))
+        (venueBy (zoneOf first (now (ats .entry)) (now (offsets .entry))) (Governing·governing (map (ruleAt (now (book .entry))) (now (rules .entry))))) (hi .0) from r (now (edges .exit)) ⌝ }
+{
+    let mut w = from;
+    'turns: loop {
+        let governed = w.governed;
+        match governed {
+            Governed::Nothing => {}
+            Governed::By(rule) => {
+                let n = rule_points(book, rule as usize);
+                let cursor = w.cursor;
+                let k = showing(edges, w.next, n, cursor, hi);
+                if k < n {
+                    let began = w.began;
+                    let date = w.date;
+                    let start = edges[k];
+                    let end = edges[k + 1];
+                    let to = Instant(earlier(hi.0, end));
+                    return Pulled::Next(
+                        Piece {
+                            from: Instant(later(cursor.0, start)),
+                            to,
+                            start: Instant(start),
+                            end: Instant(end),
+                            date,
+                            rule,
+                            point: k,
+                        },
+                        Walk {
+                            turns: w.turns,
+                            began,
+                            cursor: to,
+                            date,
+                            governed,
+                            next: k + 1,
+                        },
+                    );
+                }
+            }
+        }
+        let next = onward(first, ats, offsets, hi, w);
+        let began = w.began;
+        if (next.0 <= began.0) | (w.turns == 0) {
+            break 'turns;
+        }
+        w = begin(book, first, ats, offsets, rules, edges, w.turns - 1, next);
+    }
+    Pulled::Done
+}
+
+// The whole span that a piece is part of.
+pub fn segment(book: &[u8], first: u32, ats: &[u64], offsets: &[u32], q: Piece) -> Segment
+    requires { ⌜ Valid first (now ats) (now offsets) × Fits (now book) q ⌝ }
+    ensures { λ r. ⌜ (heldBy (now (book .entry)) r ≡ heldIn (now (book .entry)) (zoneOf first (now (ats .entry)) (now (offsets .entry))) q) × (r .rule ≡ q .rule) ⌝ }
+{
+    let place = q.rule as usize;
+    let k = q.point;
+    let date = q.date;
+    let published = rule_uncertainty(book, place);
+    let own = to_utc_at(
+        first,
+        ats,
+        offsets,
+        date,
+        point_time(book, place, k),
+        published,
+    );
+    let next = if k + 1 < rule_points(book, place) {
+        to_utc_at(
+            first,
+            ats,
+            offsets,
+            date,
+            point_time(book, place, k + 1),
+            published,
+        )
+    } else {
+        midnight_after(first, ats, offsets, date, published)
+    };
+    let start = q.start;
+    let end = q.end;
+    let before = own.uncertainty;
+    let behind = next.uncertainty;
+    Segment {
+        start: Boundary {
+            at: start,
+            uncertainty: before,
+        },
+        end: Boundary {
+            at: end,
+            uncertainty: behind,
+        },
+        phase: point_phase(book, place, k),
+        rule: q.rule,
+    }
+}
