@@ -11,10 +11,11 @@ use crate::given::Query;
 
 const BLOCK: usize = 65_536;
 
-/// Longer books and answers are left out, but for a few of the longest books.
+/// Longer books and answers are left out, but for a few long books that are answered.
 const BOOK: usize = 700;
 const ANSWER: usize = 1_500;
-const LONGEST_BOOKS: usize = 1;
+const LONG_BOOK: usize = 25_000;
+const LONG_BOOKS: usize = 1;
 /// So that the list has many books.
 const CASES_OF_A_BOOK: u64 = 6;
 
@@ -27,7 +28,7 @@ fn quota(by: u8) -> u64 {
 pub struct List {
     bytes: Vec<u8>,
     held: Counts,
-    longest: usize,
+    long: usize,
     cases: u64,
     /// Of the book at hand.
     of_book: u64,
@@ -82,11 +83,12 @@ impl List {
 
     /// Keeps the case if it has something that the list has too little of. `met` is what this one case counts.
     pub fn offer(&mut self, case: &Case, met: &Counts) {
-        let long = case.book.len() > 50_000 && case.book.len() < 60_000 && self.longest < LONGEST_BOOKS;
+        let long = case.book.len() > LONG_BOOK && !case.zeros && self.long < LONG_BOOKS;
         let short = case.book.len() <= BOOK && case.answer.len() <= ANSWER;
         let wanted = short && self.of_book < CASES_OF_A_BOOK && self.held.lacks(met, quota);
-        if case.zeros || long && case.number == 0 || wanted {
-            self.longest += usize::from(long);
+        let answered_long = long && case.number == 0 && case.answer.len() > 29;
+        if case.zeros || answered_long || wanted {
+            self.long += usize::from(answered_long);
             self.held.join(met);
             self.push(case);
         }
