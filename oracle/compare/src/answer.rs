@@ -38,12 +38,34 @@ pub type Coverage = Option<(i64, i64)>;
 #[derive(Debug, Clone, Copy, PartialEq, Eq)]
 pub enum Answer {
     Phase(Phase),
-    Unknown { start: i64, end: i64, coverage: Coverage },
-    Event { code: u16, at: i64, doubt: Doubt, evidence: u16 },
-    Missing { at: i64, coverage: Coverage },
-    Mark { row: u16 },
-    Day { start: i64, end: i64, totals: [u64; 10] },
-    Tally { start: i64, end: i64, totals: [u64; 10] },
+    Unknown {
+        start: i64,
+        end: i64,
+        coverage: Coverage,
+    },
+    Event {
+        code: u16,
+        at: i64,
+        doubt: Doubt,
+        evidence: u16,
+    },
+    Missing {
+        at: i64,
+        coverage: Coverage,
+    },
+    Mark {
+        row: u16,
+    },
+    Day {
+        start: i64,
+        end: i64,
+        totals: [u64; 10],
+    },
+    Tally {
+        start: i64,
+        end: i64,
+        totals: [u64; 10],
+    },
 }
 
 impl Answer {
@@ -94,12 +116,21 @@ fn put(answer: &Answer, out: &mut Vec<u8>) {
             put_doubt(&p.whole, &mut body);
             body.extend(p.events.to_le_bytes());
         }
-        Answer::Unknown { start, end, coverage } => {
+        Answer::Unknown {
+            start,
+            end,
+            coverage,
+        } => {
             body.extend(start.to_le_bytes());
             body.extend(end.to_le_bytes());
             put_coverage(coverage, &mut body);
         }
-        Answer::Event { code, at, doubt, evidence } => {
+        Answer::Event {
+            code,
+            at,
+            doubt,
+            evidence,
+        } => {
             body.extend(code.to_le_bytes());
             body.extend(at.to_le_bytes());
             put_doubt(doubt, &mut body);
@@ -185,12 +216,32 @@ fn get(kind: u16, body: &[u8]) -> Option<Answer> {
             whole: doubt(f),
             events: f.i32() as u32,
         }),
-        17 => Answer::Unknown { start: f.i64(), end: f.i64(), coverage: coverage(f) },
-        18 => Answer::Event { code: f.u16(), at: f.i64(), doubt: doubt(f), evidence: f.u16() },
-        19 => Answer::Missing { at: f.i64(), coverage: coverage(f) },
+        17 => Answer::Unknown {
+            start: f.i64(),
+            end: f.i64(),
+            coverage: coverage(f),
+        },
+        18 => Answer::Event {
+            code: f.u16(),
+            at: f.i64(),
+            doubt: doubt(f),
+            evidence: f.u16(),
+        },
+        19 => Answer::Missing {
+            at: f.i64(),
+            coverage: coverage(f),
+        },
         21 => Answer::Mark { row: f.u16() },
-        22 => Answer::Day { start: f.i64(), end: f.i64(), totals: totals(f) },
-        _ => Answer::Tally { start: f.i64(), end: f.i64(), totals: totals(f) },
+        22 => Answer::Day {
+            start: f.i64(),
+            end: f.i64(),
+            totals: totals(f),
+        },
+        _ => Answer::Tally {
+            start: f.i64(),
+            end: f.i64(),
+            totals: totals(f),
+        },
     })
 }
 

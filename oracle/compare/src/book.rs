@@ -159,7 +159,9 @@ pub fn decode(book: &[u8]) -> Vec<Record> {
                 evidence: fields.u16(),
                 derived: fields.u16(),
                 published: fields.published(),
-                points: (0..fields.u8()).map(|_| (fields.u64(), fields.u8())).collect(),
+                points: (0..fields.u8())
+                    .map(|_| (fields.u64(), fields.u8()))
+                    .collect(),
             }),
             4 => Record::Event(Event {
                 first: fields.i32(),

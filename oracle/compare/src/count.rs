@@ -54,7 +54,11 @@ fn skipped(zone: &TimeZone, date: Date) -> bool {
 /// Several applying rules share the highest precedence and first day.
 fn tie(rules: &[Rule], governs: &Rule, date: Date) -> bool {
     let rank = |rule: &Rule| (rule.kind.precedence(), rule.applies.start);
-    rules.iter().filter(|rule| rule.applies_on(date) && rank(rule) == rank(governs)).count() > 1
+    rules
+        .iter()
+        .filter(|rule| rule.applies_on(date) && rank(rule) == rank(governs))
+        .count()
+        > 1
 }
 
 /// An event of the span whose own date is later than the date that the span's start reads.
@@ -63,7 +67,11 @@ fn event_on_next(rules: &VenueRuleset, zone: &TimeZone, span: Interval) -> bool 
     let (mut date, last) = (read(span.start), read(span.end));
     while date < last {
         date = date.tomorrow().expect("a next date");
-        for event in rules.events.iter().filter(|event| event.applies.contains(date)) {
+        for event in rules
+            .events
+            .iter()
+            .filter(|event| event.applies.contains(date))
+        {
             for at in &event.times {
                 if span.contains(doors::to_utc(zone, date.to_datetime(*at)).0) {
                     return true;
@@ -84,7 +92,11 @@ pub fn situations(venue: &Venue, at: i64) -> Met {
         return met;
     }
     let today = civil::doors::datetime_at(zone, at).date();
-    let three = [today.yesterday().expect("a date"), today, today.tomorrow().expect("a date")];
+    let three = [
+        today.yesterday().expect("a date"),
+        today,
+        today.tomorrow().expect("a date"),
+    ];
     met[4] = three.iter().any(|date| skipped(zone, *date));
     met[6] = doors::governing_rule(&rules.rules, today).is_none();
     let Some((date, spans, held)) = three.iter().find_map(|date| {
@@ -111,8 +123,10 @@ pub fn situations(venue: &Venue, at: i64) -> Met {
     met[7] = event_on_next(rules, zone, span.interval);
     // A span's two boundaries have one rule, so a tie here is of tag 3 with 4 or 5, or of 4 with 5.
     let (from, to) = (&span.start_uncertainty, &span.end_uncertainty);
-    met[8] = std::mem::discriminant(from) != std::mem::discriminant(to) && from.bound_nanos() == to.bound_nanos();
-    met[9] = span.interval.start < rules.coverage.start() || span.interval.end > rules.coverage.end();
+    met[8] = std::mem::discriminant(from) != std::mem::discriminant(to)
+        && from.bound_nanos() == to.bound_nanos();
+    met[9] =
+        span.interval.start < rules.coverage.start() || span.interval.end > rules.coverage.end();
     met
 }
 
@@ -137,7 +151,16 @@ pub enum By {
     Situation,
 }
 
-const HEADINGS: [&str; 8] = ["books", "number", "kind", "tag", "phase", "rule code", "room", "situation"];
+const HEADINGS: [&str; 8] = [
+    "books",
+    "number",
+    "kind",
+    "tag",
+    "phase",
+    "rule code",
+    "room",
+    "situation",
+];
 
 impl Counts {
     pub fn add(&mut self, by: By, name: impl ToString) {
@@ -180,6 +203,32 @@ impl Counts {
         self.add(By::Room, name);
     }
 
+    /// What a book has the most of.
+    pub fn shape(&mut self, venue: &Venue) {
+        let Some((rules, _)) = venue.parts() else {
+            self.add(By::Books, "of zero bytes");
+            return;
+        };
+        let points = |rule: &Rule| rule.schedule.change_points().len();
+        let shapes = [
+            (
+                "with 16 points of a rule",
+                rules.rules.iter().any(|rule| points(rule) == 16),
+            ),
+            ("with 256 rules", rules.rules.len() == 256),
+            ("with 32 events", rules.events.len() == 32),
+            ("with 640 clock changes", venue.changes.len() == 640),
+            (
+                "with an event code that is not compared",
+                !venue.strange_codes.is_empty(),
+            ),
+            ("without a rule", rules.rules.is_empty()),
+        ];
+        for (name, _) in shapes.iter().filter(|(_, has)| *has) {
+            self.add(By::Books, name);
+        }
+    }
+
     pub fn met(&mut self, met: Met) {
         for (name, met) in SITUATIONS.iter().zip(met) {
             if met {
@@ -190,7 +239,10 @@ impl Counts {
 
     /// Whether another's names are here less often than wanted, by what is counted.
     pub fn lacks(&self, other: &Self, wanted: fn(u8) -> u64) -> bool {
-        other.by.keys().any(|name| self.by.get(name).copied().unwrap_or(0) < wanted(name.0))
+        other
+            .by
+            .keys()
+            .any(|name| self.by.get(name).copied().unwrap_or(0) < wanted(name.0))
     }
 
     pub fn join(&mut self, other: &Self) {
@@ -219,17 +271,28 @@ impl Counts {
         }
         wanted.extend((0..8).map(|phase| (By::Phase, phase.to_string())));
         wanted.extend((0..4).map(|code| (By::Code, code.to_string())));
-        wanted.extend(["none", "one short", "exact", "one over"].map(|room| (By::Room, room.to_owned())));
+        wanted.extend(
+            ["none", "one short", "exact", "one over"].map(|room| (By::Room, room.to_owned())),
+        );
         wanted.extend(SITUATIONS.map(|name| (By::Situation, name.to_owned())));
         let mut missing: Vec<String> = wanted
             .into_iter()
             .filter_map(|(by, name)| {
                 let count = self.by.get(&(by as u8, name.clone())).copied().unwrap_or(0);
-                (count < LEAST).then(|| format!("{} {}: {count}, below {LEAST}", HEADINGS[by as usize], name.trim()))
+                (count < LEAST).then(|| {
+                    format!(
+                        "{} {}: {count}, below {LEAST}",
+                        HEADINGS[by as usize],
+                        name.trim()
+                    )
+                })
             })
             .collect();
         if self.known * 2 < self.points {
-            missing.push(format!("known points: {} of {}, less than half", self.known, self.points));
+            missing.push(format!(
+                "known points: {} of {}, less than half",
+                self.known, self.points
+            ));
         }
         missing
     }

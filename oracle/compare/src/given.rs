@@ -19,9 +19,14 @@ pub const SETTLEMENT: u16 = 1;
 
 #[derive(Debug, Clone, Copy, PartialEq, Eq)]
 pub enum Query {
-    Point { at: i64 },
+    Point {
+        at: i64,
+    },
     #[cfg_attr(not(feature = "window"), allow(dead_code))]
-    Window { start: i64, end: i64 },
+    Window {
+        start: i64,
+        end: i64,
+    },
 }
 
 /// A book as the original has it.
@@ -66,7 +71,10 @@ fn uncertainty(published: &Published) -> Uncertainty {
     match published.tag {
         0 => Uncertainty::Exact,
         1 => Uncertainty::PublishedGranularity { nanos },
-        2 => Uncertainty::PublishedBound { nanos, published_as: text },
+        2 => Uncertainty::PublishedBound {
+            nanos,
+            published_as: text,
+        },
         3 => Uncertainty::ProcessStart { process: text },
         _ => unreachable!("an accepted book has tags 0 to 3"),
     }
@@ -87,7 +95,10 @@ fn rule(rule: &book::Rule, revision: &DatasetRevisionId) -> given::Rule {
     given::Rule {
         kind: match rule.code {
             0 => RuleKind::WeeklyPattern {
-                weekdays: (0..7).filter(|day| rule.mask >> day & 1 == 1).map(|day| WEEK[day]).collect(),
+                weekdays: (0..7)
+                    .filter(|day| rule.mask >> day & 1 == 1)
+                    .map(|day| WEEK[day])
+                    .collect(),
             },
             1 => RuleKind::Holiday { name },
             2 => RuleKind::ShortenedSession { name },
@@ -123,32 +134,48 @@ fn event(event: &book::Event, revision: &DatasetRevisionId) -> EventRule {
 
 /// The number in a text that is a letter and a number.
 fn number(text: &str, letter: char) -> u16 {
-    text.strip_prefix(letter).and_then(|rest| rest.parse().ok()).expect("a text of ours")
+    text.strip_prefix(letter)
+        .and_then(|rest| rest.parse().ok())
+        .expect("a text of ours")
 }
 
 pub fn doubt(uncertainty: &Uncertainty) -> Doubt {
-    let of = |tag, first, second, text| Doubt { tag, first, second, text };
+    let of = |tag, first, second, text| Doubt {
+        tag,
+        first,
+        second,
+        text,
+    };
     let width = |nanos: &i128| i64::try_from(*nanos).expect("a width of 64 bits");
     match uncertainty {
         Uncertainty::Exact => of(0, 0, 0, 0),
         Uncertainty::PublishedGranularity { nanos } => of(1, width(nanos), 0, 0),
-        Uncertainty::PublishedBound { nanos, published_as } => {
-            of(2, width(nanos), 0, number(published_as, 't'))
-        }
+        Uncertainty::PublishedBound {
+            nanos,
+            published_as,
+        } => of(2, width(nanos), 0, number(published_as, 't')),
         Uncertainty::ProcessStart { process } => of(3, 0, 0, number(process, 't')),
-        Uncertainty::AmbiguousLocalTime { earlier, later } => of(4, nanos(*earlier), nanos(*later), 0),
-        Uncertainty::NonexistentLocalTime { as_if_before_shift, as_if_after_shift } => {
-            of(5, nanos(*as_if_before_shift), nanos(*as_if_after_shift), 0)
+        Uncertainty::AmbiguousLocalTime { earlier, later } => {
+            of(4, nanos(*earlier), nanos(*later), 0)
         }
+        Uncertainty::NonexistentLocalTime {
+            as_if_before_shift,
+            as_if_after_shift,
+        } => of(5, nanos(*as_if_before_shift), nanos(*as_if_after_shift), 0),
         other => panic!("an uncertainty that document 01 does not name: {other:?}"),
     }
 }
 
 fn code(kind_name: &str) -> u8 {
-    ["weekly_pattern", "holiday", "shortened_session", "announced_change"]
-        .iter()
-        .position(|name| *name == kind_name)
-        .expect("a rule's kind") as u8
+    [
+        "weekly_pattern",
+        "holiday",
+        "shortened_session",
+        "announced_change",
+    ]
+    .iter()
+    .position(|name| *name == kind_name)
+    .expect("a rule's kind") as u8
 }
 
 fn phase_and_events(interval: Interval, answer: &PhaseAnswer, out: &mut Vec<Answer>) {
@@ -157,15 +184,29 @@ fn phase_and_events(interval: Interval, answer: &PhaseAnswer, out: &mut Vec<Answ
         doubt: doubt(&b.uncertainty),
     };
     let code = code(&answer.calendar_rule_kind);
-    assert_eq!(answer.evidence.len(), 1, "a venue's own evidence stays with the host");
+    assert_eq!(
+        answer.evidence.len(),
+        1,
+        "a venue's own evidence stays with the host"
+    );
     out.push(Answer::Phase(Phase {
         start: nanos(interval.start),
         end: nanos(interval.end),
-        phase: given::Phase::all().iter().position(|p| *p == answer.phase).expect("a phase") as u8,
+        phase: given::Phase::all()
+            .iter()
+            .position(|p| *p == answer.phase)
+            .expect("a phase") as u8,
         code,
-        label: if code == 0 { 0 } else { number(&answer.calendar_label, 'l') },
+        label: if code == 0 {
+            0
+        } else {
+            number(&answer.calendar_label, 'l')
+        },
         evidence: number(answer.evidence[0].source_url(), 'e'),
-        derived: answer.derived_reasoning.as_deref().map_or(0, |text| number(text, 'd')),
+        derived: answer
+            .derived_reasoning
+            .as_deref()
+            .map_or(0, |text| number(text, 'd')),
         from: boundary(&answer.boundary_start),
         to: boundary(&answer.boundary_end),
         whole: doubt(&answer.uncertainty),
@@ -230,7 +271,9 @@ impl Venue {
             venue: id,
             home_zone: IanaZoneId::new("z").expect("a zone"),
             profile: VenueProfile::default(),
-            coverage: CoverageRange::new(Interval::new(instant(start), instant(end)).expect("coverage")),
+            coverage: CoverageRange::new(
+                Interval::new(instant(start), instant(end)).expect("coverage"),
+            ),
             rules,
             events,
             evidence: Vec::new(),
@@ -247,7 +290,9 @@ impl Venue {
 
     /// The original's rules and zone; none for a book of zero bytes.
     pub fn parts(&self) -> Option<(&VenueRuleset, &TimeZone)> {
-        self.ruleset.venue(&self.id).zip(self.ruleset.zone(&self.id))
+        self.ruleset
+            .venue(&self.id)
+            .zip(self.ruleset.zone(&self.id))
     }
 
     /// The answer's bytes, or the query's number.
@@ -280,7 +325,10 @@ impl Venue {
     }
 
     fn window(&self, start: i64, end: i64) -> Vec<Answer> {
-        let asked = Interval { start: instant(start), end: instant(end) };
+        let asked = Interval {
+            start: instant(start),
+            end: instant(end),
+        };
         let mut out = Vec::new();
         for segment in given::resolve_timeline(asked, &self.id, &self.ruleset).segments {
             match segment {

@@ -65,7 +65,11 @@ fn frame(rest: &[u8], first: bool) -> Option<(usize, &[u8])> {
     if body.len() < fixed {
         return None;
     }
-    let n = if each == 0 { 0 } else { usize::from(body[fixed - 1]) };
+    let n = if each == 0 {
+        0
+    } else {
+        usize::from(body[fixed - 1])
+    };
     (body.len() == fixed + n * each).then_some((kind, body))
 }
 
@@ -82,14 +86,22 @@ fn judge_record(kind: usize, body: &[u8], before: &mut Before) -> u32 {
     match kind {
         1 => {
             let (start, end, offset) = (fields.i64(), fields.i64(), fields.i32());
-            test(4, outside(start, INSTANTS) || outside(end, INSTANTS) || outside(offset, OFFSETS));
+            test(
+                4,
+                outside(start, INSTANTS) || outside(end, INSTANTS) || outside(offset, OFFSETS),
+            );
             test(8, end <= start);
         }
         2 => {
             let (at, offset) = (fields.i64(), fields.i32());
             test(4, outside(at, SECONDS) || outside(offset, OFFSETS));
             // In 128 bits: an instant outside its range may be any number.
-            test(9, before.change.is_some_and(|b| i128::from(at) - i128::from(b) < i128::from(SPACING)));
+            test(
+                9,
+                before
+                    .change
+                    .is_some_and(|b| i128::from(at) - i128::from(b) < i128::from(SPACING)),
+            );
             before.change = Some(at);
         }
         _ => {
@@ -98,7 +110,10 @@ fn judge_record(kind: usize, body: &[u8], before: &mut Before) -> u32 {
             test(7, last < first);
             if kind == 3 {
                 let (code, mask, label) = (fields.u8(), fields.u8(), fields.u16());
-                test(4, code > 3 || mask > 127 || code == 0 && label != 0 || code != 0 && mask != 0);
+                test(
+                    4,
+                    code > 3 || mask > 127 || code == 0 && label != 0 || code != 0 && mask != 0,
+                );
                 fields.u16();
             } else {
                 fields.u16();
@@ -111,7 +126,10 @@ fn judge_record(kind: usize, body: &[u8], before: &mut Before) -> u32 {
             let n = usize::from(fields.u8());
             if kind == 3 {
                 let points: Vec<(u64, u8)> = (0..n).map(|_| (fields.u64(), fields.u8())).collect();
-                test(4, n > MOST_POINTS || points.iter().any(|&(t, phase)| t >= DAY || phase > 7));
+                test(
+                    4,
+                    n > MOST_POINTS || points.iter().any(|&(t, phase)| t >= DAY || phase > 7),
+                );
                 test(5, points.first().is_none_or(|&(t, _)| t != 0));
                 test(6, points.windows(2).any(|two| two[1].0 <= two[0].0));
             } else {

@@ -49,7 +49,12 @@ fn record(case: &Case) -> Vec<u8> {
         Query::Point { at } => (1, [at, 0, 0, 0, 0]),
         Query::Window { start, end } => (2, [start, end, 0, 0, 0]),
     };
-    let lengths = [case.answer.len(), case.book.len(), case.room, usize::from(case.zeros)];
+    let lengths = [
+        case.answer.len(),
+        case.book.len(),
+        case.room,
+        usize::from(case.zeros),
+    ];
     let mut made = vec![entry];
     made.extend(i64::from(case.number).to_le_bytes());
     for length in lengths {

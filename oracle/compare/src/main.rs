@@ -9,8 +9,10 @@
 //! under `--long` where something was met too seldom.
 
 mod answer;
+mod ask;
 mod book;
 mod count;
+mod damage;
 mod given;
 mod judge;
 mod list;
@@ -72,7 +74,10 @@ fn without_strange_codes(room: &mut [u8], length: usize, strange: &[u16]) {
     while at + 4 <= length {
         let record = usize::from(u16::from_le_bytes([room[at], room[at + 1]])) + 2;
         let kind = u16::from_le_bytes([room[at + 2], room[at + 3]]);
-        if kind == 18 && at + 6 <= length && strange.contains(&u16::from_le_bytes([room[at + 4], room[at + 5]])) {
+        if kind == 18
+            && at + 6 <= length
+            && strange.contains(&u16::from_le_bytes([room[at + 4], room[at + 5]]))
+        {
             room[at + 4..at + 6].copy_from_slice(&SETTLEMENT.to_le_bytes());
         }
         at += record;
@@ -109,8 +114,11 @@ fn compare(
     random: &mut Random,
     counts: &mut Counts,
 ) -> Asked {
-    let answer = opened.as_ref().map_err(|number| *number).and_then(|venue| venue.answer(query));
-    let room = make::room(random, answer.as_ref().ok().map(Vec::len));
+    let answer = opened
+        .as_ref()
+        .map_err(|number| *number)
+        .and_then(|venue| venue.answer(query));
+    let room = ask::room(random, answer.as_ref().ok().map(Vec::len));
     let (mut theirs, mut ours) = (Room::new(room), Room::new(room));
     let expected = lend(&answer, theirs.bytes_mut());
     let got = port::ask(book, query, &mut ours);
@@ -120,12 +128,22 @@ fn compare(
         without_strange_codes(ours.bytes_mut(), got.1, &venue.strange_codes);
     }
     if expected != got || theirs.bytes() != ours.bytes() || !ours.guarded() {
-        println!("DIFFERENCE: --seed {} --from {} --books 1", place.seed, place.book);
+        println!(
+            "DIFFERENCE: --seed {} --from {} --books 1",
+            place.seed, place.book
+        );
         println!("book {}", hex(book));
         println!("{query:?} room {room}");
         tell("Rust", expected, theirs.bytes());
         tell("port", got, ours.bytes());
-        println!("guards {}", if ours.guarded() { "untouched" } else { "ALTERED" });
+        println!(
+            "guards {}",
+            if ours.guarded() {
+                "untouched"
+            } else {
+                "ALTERED"
+            }
+        );
         exit(1);
     }
     if let Ok(bytes) = &answer {
@@ -133,11 +151,22 @@ fn compare(
     }
     let answer = theirs.bytes()[..expected.1].to_vec();
     counts.reply(expected.0, &answer);
-    Asked { number: expected.0, answer, room }
+    Asked {
+        number: expected.0,
+        answer,
+        room,
+    }
 }
 
 /// A point query, compared and counted.
-fn point(place: Place, book: &[u8], opened: &Result<Venue, u32>, at: i64, random: &mut Random, counts: &mut Counts) -> Asked {
+fn point(
+    place: Place,
+    book: &[u8],
+    opened: &Result<Venue, u32>,
+    at: i64,
+    random: &mut Random,
+    counts: &mut Counts,
+) -> Asked {
     let asked = compare(place, book, opened, &Query::Point { at }, random, counts);
     counts.points += 1;
     counts.known += u64::from(asked.number == 0 && asked.answer[2] == 16);
@@ -164,7 +193,7 @@ fn books(random: &mut Random) -> Vec<(Vec<u8>, usize)> {
     let mut made = vec![(whole, wanted(random, records.len()))];
     if records.len() < 60 {
         for _ in 0..random.below(8) {
-            made.push((make::damaged(random, &records), 2));
+            made.push((damage::damaged(random, &records), 2));
         }
     }
     made
@@ -172,19 +201,28 @@ fn books(random: &mut Random) -> Vec<(Vec<u8>, usize)> {
 
 fn instants(random: &mut Random, opened: &Result<Venue, u32>, wanted: usize) -> Vec<i64> {
     match opened {
-        Ok(venue) => make::instants(random, venue, wanted),
-        Err(_) => vec![make::far(random)],
+        Ok(venue) => ask::instants(random, venue, wanted),
+        Err(_) => vec![ask::far(random)],
     }
 }
 
 fn run_points(arguments: &Arguments) {
     let mut counts = Counts::default();
     for book in arguments.from..arguments.from + arguments.books {
-        let place = Place { seed: arguments.seed, book };
+        let place = Place {
+            seed: arguments.seed,
+            book,
+        };
         let mut random = Random::new(arguments.seed, book);
         for (bytes, wanted) in books(&mut random) {
             let opened = Venue::open(&bytes);
-            counts.add(By::Books, if opened.is_ok() { "accepted" } else { "refused" });
+            match &opened {
+                Ok(venue) => {
+                    counts.add(By::Books, "accepted");
+                    counts.shape(venue);
+                }
+                Err(_) => counts.add(By::Books, "refused"),
+            }
             for at in instants(&mut random, &opened, wanted) {
                 point(place, &bytes, &opened, at, &mut random, &mut counts);
             }
@@ -204,12 +242,22 @@ fn run_points(arguments: &Arguments) {
 fn run_windows(arguments: &Arguments) {
     let mut counts = Counts::default();
     for book in arguments.from..arguments.from + arguments.books {
-        let place = Place { seed: arguments.seed, book };
+        let place = Place {
+            seed: arguments.seed,
+            book,
+        };
         let mut random = Random::new(arguments.seed, book);
         for (bytes, wanted) in books(&mut random) {
             let opened = Venue::open(&bytes);
-            for (start, end) in make::windows(&mut random, opened.as_ref().ok(), wanted / 2) {
-                compare(place, &bytes, &opened, &Query::Window { start, end }, &mut random, &mut counts);
+            for (start, end) in ask::windows(&mut random, opened.as_ref().ok(), wanted / 2) {
+                compare(
+                    place,
+                    &bytes,
+                    &opened,
+                    &Query::Window { start, end },
+                    &mut random,
+                    &mut counts,
+                );
             }
         }
     }
@@ -220,19 +268,45 @@ fn run_windows(arguments: &Arguments) {
 /// Writes the list that crates/replay asks again. Books with an event code that is not compared are left out.
 fn run_list(arguments: &Arguments, file: &str) {
     let mut list = List::default();
-    let offer = |list: &mut List, place, book: &[u8], zeros, opened: &Result<Venue, u32>, at, random: &mut Random| {
+    let offer = |list: &mut List,
+                 place,
+                 book: &[u8],
+                 zeros,
+                 opened: &Result<Venue, u32>,
+                 at,
+                 random: &mut Random| {
         let mut counts = Counts::default();
         let asked = point(place, book, opened, at, random, &mut counts);
-        let Asked { number, answer, room } = &asked;
+        let Asked {
+            number,
+            answer,
+            room,
+        } = &asked;
         let query = &Query::Point { at };
-        list.offer(&Case { book, zeros, query, room: *room, number: *number, answer }, &counts);
+        list.offer(
+            &Case {
+                book,
+                zeros,
+                query,
+                room: *room,
+                number: *number,
+                answer,
+            },
+            &counts,
+        );
     };
     for book in arguments.from..arguments.from + arguments.books {
-        let place = Place { seed: arguments.seed, book };
+        let place = Place {
+            seed: arguments.seed,
+            book,
+        };
         let mut random = Random::new(arguments.seed, book);
         for (bytes, wanted) in books(&mut random) {
             let opened = Venue::open(&bytes);
-            if opened.as_ref().is_ok_and(|venue| !venue.strange_codes.is_empty()) {
+            if opened
+                .as_ref()
+                .is_ok_and(|venue| !venue.strange_codes.is_empty())
+            {
                 continue;
             }
             list.next_book();
@@ -243,7 +317,15 @@ fn run_list(arguments: &Arguments, file: &str) {
         // Too long for a block of the list: books of zeros, one byte too long and more.
         if book - arguments.from < 16 {
             let zeros = vec![0; judge::LONGEST + 1 + random.below(2) * random.below(30_000)];
-            offer(&mut list, place, &zeros, true, &Venue::open(&zeros), make::far(&mut random), &mut random);
+            offer(
+                &mut list,
+                place,
+                &zeros,
+                true,
+                &Venue::open(&zeros),
+                ask::far(&mut random),
+                &mut random,
+            );
         }
     }
     list.write(file);
@@ -251,7 +333,9 @@ fn run_list(arguments: &Arguments, file: &str) {
 
 fn main() {
     let Some(arguments) = arguments() else {
-        eprintln!("usage: compare points|list|zones [--seed S] [--from I] [--books N] [--long] [FILE]");
+        eprintln!(
+            "usage: compare points|list|zones [--seed S] [--from I] [--books N] [--long] [FILE]"
+        );
         exit(2);
     };
     match arguments.what.as_str() {

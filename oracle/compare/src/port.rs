@@ -9,7 +9,13 @@ struct Reply {
 }
 
 unsafe extern "C" {
-    fn market_time_point(book: *const u8, book_len: usize, at: i64, out: *mut u8, out_len: usize) -> Reply;
+    fn market_time_point(
+        book: *const u8,
+        book_len: usize,
+        at: i64,
+        out: *mut u8,
+        out_len: usize,
+    ) -> Reply;
     #[cfg(feature = "window")]
     fn market_time_window(
         book: *const u8,
@@ -35,7 +41,13 @@ impl Room {
 
     pub fn new(length: usize) -> Self {
         let guard = std::iter::repeat_n(0xc3, GUARD);
-        Self(guard.clone().chain((0..length).map(Self::fill)).chain(guard).collect())
+        Self(
+            guard
+                .clone()
+                .chain((0..length).map(Self::fill))
+                .chain(guard)
+                .collect(),
+        )
     }
 
     pub fn bytes(&self) -> &[u8] {
@@ -64,7 +76,14 @@ pub fn ask(book: &[u8], query: &Query, room: &mut Room) -> (u32, usize) {
         },
         #[cfg(feature = "window")]
         Query::Window { start, end } => unsafe {
-            market_time_window(book.as_ptr(), book.len(), start, end, out.as_mut_ptr(), out.len())
+            market_time_window(
+                book.as_ptr(),
+                book.len(),
+                start,
+                end,
+                out.as_mut_ptr(),
+                out.len(),
+            )
         },
         #[cfg(not(feature = "window"))]
         Query::Window { .. } => unreachable!("the library has no window entry yet"),

@@ -26,8 +26,12 @@ fn print_reading(zone: &TimeZone, reading: i64) {
     let by = |offset: jiff::tz::Offset| reading - i64::from(offset.seconds());
     match zone.to_ambiguous_timestamp(date.to_datetime(time)).offset() {
         AmbiguousOffset::Unambiguous { offset } => println!("C {reading} {}", by(offset)),
-        AmbiguousOffset::Fold { before, after } => println!("F {reading} {} {}", by(before), by(after)),
-        AmbiguousOffset::Gap { before, after } => println!("G {reading} {} {}", by(before), by(after)),
+        AmbiguousOffset::Fold { before, after } => {
+            println!("F {reading} {} {}", by(before), by(after))
+        }
+        AmbiguousOffset::Gap { before, after } => {
+            println!("G {reading} {} {}", by(before), by(after))
+        }
     }
 }
 
@@ -40,7 +44,10 @@ fn print_zone(first: i32, changes: &[(i64, i32)]) {
     let (mut instants, mut readings) = (BTreeSet::new(), BTreeSet::new());
     let mut before = first;
     for &(at, after) in changes {
-        let (low, high) = (at + i64::from(before.min(after)), at + i64::from(before.max(after)));
+        let (low, high) = (
+            at + i64::from(before.min(after)),
+            at + i64::from(before.max(after)),
+        );
         for beside in -1..=1 {
             instants.insert(at + beside);
             readings.extend([low + beside, high + beside]);
@@ -52,12 +59,18 @@ fn print_zone(first: i32, changes: &[(i64, i32)]) {
     }
     // Far from every change.
     let (start, end) = (changes[0].0, changes[changes.len() - 1].0);
-    for at in [start - 40 * DAY, start - 400 * DAY, end + 40 * DAY, end + 400 * DAY] {
+    for at in [
+        start - 40 * DAY,
+        start - 400 * DAY,
+        end + 40 * DAY,
+        end + 400 * DAY,
+    ] {
         instants.insert(at);
         readings.insert(at);
     }
     for at in instants {
-        let instant = Timestamp::from_nanosecond(i128::from(at) * i128::from(SECOND)).expect("an instant");
+        let instant =
+            Timestamp::from_nanosecond(i128::from(at) * i128::from(SECOND)).expect("an instant");
         println!("R {at} {}", zone.to_offset(instant).seconds());
     }
     for reading in readings {
