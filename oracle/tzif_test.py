@@ -1,6 +1,6 @@
 #!/usr/bin/env python3
 """tzif_test.py: judges the stand-in for jiff. Reads what `compare zones` prints, writes each book's clock changes as a TZif file, has
-Python's zoneinfo read the file, and compares every offset and reading. Ends with 1 if one differs.
+Python's zoneinfo read the file, and compares every offset and reading; and every date with Python's calendar. Ends with 1 if one differs.
 
 A reading's instants are found by their definition: x - o is one if o is in use and zoneinfo gives o at x - o. In a fold and in a gap
 zoneinfo's own answers (fold=0, the earlier or by the offset before; fold=1, the later or by the offset after) must be the same too.
@@ -48,13 +48,20 @@ def resolve(zone, used, x):
     return ["G", x, *twice] if not found else ["?", x, found, twice]
 
 
-def zones(lines):
-    """Each book: first offset, changes, what is asked and expected."""
+def is_date(number, year, month, day, weekday):
+    date = datetime.date(1970, 1, 1) + datetime.timedelta(days=number)
+    return (date.year, date.month, date.day, date.weekday()) == (year, month, day, weekday)
+
+
+def zones(lines, dates):
+    """Each book: first offset, changes, what is asked and expected. Counts the dates, right and wrong."""
     book = None
     for line in lines:
         word, *numbers = line.split()
         numbers = [int(n) for n in numbers]
-        if word == "Z":
+        if word == "D":
+            dates[is_date(*numbers)] += 1
+        elif word == "Z":
             if book:
                 yield book
             book = (numbers[0], [], [])
@@ -66,10 +73,10 @@ def zones(lines):
 
 
 def main():
-    counts, wrong, shifts, spacing = collections.Counter(), 0, 0, 10**9
+    counts, dates, wrong, shifts, spacing = collections.Counter(), collections.Counter(), 0, 0, 10**9
     folder = tempfile.mkdtemp()
     path = os.path.join(folder, "zone")
-    for first, changes, asked in zones(sys.stdin):
+    for first, changes, asked in zones(sys.stdin, dates):
         data = tzif(first, changes)
         if data is None:
             counts["books with more than 255 offsets, not asked"] += 1
@@ -101,12 +108,14 @@ def main():
                     print("DIFFERENCE", first, changes, "stand-in", expected, "zoneinfo", got)
     os.remove(path)
     os.rmdir(folder)
+    wrong += dates[False]
+    counts["dates"] = dates[True] + dates[False]
     for name, count in counts.items():
         print("stand-in:", name, count)
     print("stand-in: largest shift", shifts, "s, least spacing", spacing, "s")
-    print("stand-in: differences from zoneinfo", wrong)
-    if counts["books"] < int(sys.argv[1]) or shifts < 115_200 or spacing > 172_800:
-        print("stand-in: too few books, or too tame")
+    print("stand-in: differences", wrong)
+    if counts["books"] < int(sys.argv[1]) or counts["dates"] != 109_573 or shifts < 115_200 or spacing > 172_800:
+        print("stand-in: too few dates or books, or too tame")
         sys.exit(1)
     sys.exit(1 if wrong else 0)
 

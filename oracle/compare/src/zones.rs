@@ -1,7 +1,8 @@
-//! The stand-in for jiff put to an outside judge: prints clock changes of generated books, and
-//! what the stand-in says of instants and readings beside each. tzif_test.py writes the changes as TZif
+//! The stand-in for jiff put to an outside judge: prints every date of document 01, clock changes of
+//! generated books, and what the stand-in says of instants and readings beside each. tzif_test.py writes the changes as TZif
 //! files and asks Python's zoneinfo the same. All numbers are whole seconds.
 //!
+//!     D day year month day weekday      a date, Monday 0
 //!     Z first offset
 //!     T instant offset           a change
 //!     R instant offset           the offset at an instant
@@ -10,7 +11,7 @@
 //!     G reading before after     none: by the offset before the change, and after it
 
 use crate::book::Record;
-use crate::judge::SECOND;
+use crate::judge::{DAYS, SECOND};
 use crate::make;
 use crate::random::Random;
 use jiff::Timestamp;
@@ -78,8 +79,18 @@ fn print_zone(first: i32, changes: &[(i64, i32)]) {
     }
 }
 
-/// The changes of so many books that have some.
+fn print_dates() {
+    for day in DAYS[0]..=DAYS[1] {
+        let date = Date::from_day_number(i64::from(day)).expect("a date");
+        let (year, month, weekday) = (date.year(), date.month(), date.weekday());
+        let weekday = weekday.to_monday_zero_offset();
+        println!("D {day} {year} {month} {} {weekday}", date.day());
+    }
+}
+
+/// The dates, and the changes of so many books that have some.
 pub fn run(seed: u64, books: u64) {
+    print_dates();
     let (mut place, mut printed) = (0, 0);
     while printed < books {
         let records = make::book(&mut Random::new(seed, place));
