@@ -150,14 +150,18 @@ pub fn windows(random: &mut Random, venue: Option<&Venue>, wanted: usize) -> Vec
     (0..wanted)
         .map(|_| {
             let first = random.below(found.len());
-            // Mostly some edges on: a window of years takes the Rust long.
             let last = (first + random.below(30)).min(found.len() - 1);
             let (a, b) = (found[first], found[last]);
-            match random.below(300) {
-                0..6 => (b, a),
-                6..12 => (a, a),
-                12..14 => (a, far(random)),
-                _ => (a, b),
+            match random.below(1000) {
+                0..20 => (b, a),
+                20..40 => (a, a),
+                40..42 => (a, far(random)),
+                42..44 => (a, b),
+                // A window of years takes the Rust long: most have weeks at most.
+                _ => (
+                    a,
+                    b.min(a.saturating_add(random.from_to(1, 30 * DAY as i64))),
+                ),
             }
         })
         .collect()
