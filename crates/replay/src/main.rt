@@ -1,0 +1,260 @@
+// Asks the port again what the original Rust was asked, from a fixed list. It compares the reply's number, its length and every byte of the
+// room, and prints how many it met of each number and kind of answer and how many differed. `tools/compare list` makes the list, and
+// oracle/compare/src/list.rs says how.
+ghost use Prim.Native.Nat.{_≤_};
+use cases::met;
+use cases::number;
+use cases::report;
+use lend::Reply;
+use lend::refused;
+use point::point_answer;
+use wire::Placed;
+use wire::unplace;
+
+// A record has a kind, the entry that was asked, and ten numbers: the reply's number and length, the lengths of the book and of the room, 1
+// for a book of zeros, and the query's. The book's bytes follow, none of zeros, and then the answer's.
+const POINT: u8 = 1;
+
+const HEAD: usize = 81;
+
+// Counts stand at the reply's number, plus 1; then known points, unknown ones, refusals, and what is no record.
+const KNOWN: u8 = 18;
+
+const UNKNOWN: u8 = 19;
+
+const NO_ANSWER: u8 = 20;
+
+const STRANGE: u8 = 21;
+
+const PLACES: usize = 22;
+
+const ZERO: u64 = 0x8000_0000_0000_0000;
+
+// The longest book of zeros.
+const LONGEST: usize = 100_000;
+
+// A room is the front of this many bytes, and what is behind it must stay as it was too.
+const LENT: usize = 16_384;
+
+const AS_IT_WAS: u8 = 0xa5;
+
+// No number of the list's: the list lends more than there is.
+const NO_SUCH_ROOM: u32 = 1000;
+
+// A number of the list, none above 2^32.
+fn count(p: Placed) -> usize
+    ensures { λ r. ⌜ r ≤ 4294967295 ⌝ }
+{
+    let n = p.0;
+    if n < ZERO {
+        return 0;
+    }
+    if 0xffff_ffff < n - ZERO {
+        return 0;
+    }
+    (n - ZERO) as usize
+}
+
+fn place(expected: usize) -> u8 {
+    if 16 < expected {
+        return STRANGE;
+    }
+    expected as u8 + 1
+}
+
+// Whether the lent bytes begin with the answer.
+fn begins(out: &[u8; LENT], answer: &[u8]) -> bool {
+    if LENT < answer.len() {
+        return false;
+    }
+    let mut i: usize = 0;
+    while i < answer.len() {
+        if out[i] != answer[i] {
+            return false;
+        }
+        i += 1;
+    }
+    true
+}
+
+// Whether nothing was written from a place on.
+fn is_as_it_was(out: &[u8; LENT], from: usize) -> bool {
+    let mut i = from;
+    while i < LENT {
+        if out[i] != AS_IT_WAS {
+            return false;
+        }
+        i += 1;
+    }
+    true
+}
+
+// Asks for a point with the front of these bytes as the room.
+fn asked(book: &[u8], at: i64, out: &mut [u8], room: usize) -> Reply {
+    if out.len() < room {
+        return refused(NO_SUCH_ROOM);
+    }
+    point_answer(book, at, &mut out[..room])
+}
+
+// Whether a point query gets this number and this answer, and nothing else is written.
+fn is_answered(book: &[u8], at: i64, room: usize, expected: usize, answer: &[u8]) -> bool {
+    let mut out = [AS_IT_WAS; LENT];
+    let reply = asked(book, at, &mut out, room);
+    (reply.number as usize == expected)
+        & (reply.length == answer.len())
+        & begins(&out, answer)
+        & is_as_it_was(&out, answer.len())
+}
+
+// The same of the front of a book.
+fn is_part_answered(
+    bytes: &[u8],
+    length: usize,
+    at: i64,
+    room: usize,
+    expected: usize,
+    answer: &[u8],
+) -> bool {
+    if bytes.len() < length {
+        return false;
+    }
+    is_answered(&bytes[..length], at, room, expected, answer)
+}
+
+fn is_zeros_answered(length: usize, at: i64, room: usize, expected: usize, answer: &[u8]) -> bool {
+    let zeros = [0u8; LONGEST];
+    is_part_answered(&zeros, length, at, room, expected, answer)
+}
+
+// Where an answer of this kind is counted.
+fn kind_place(answer: &[u8]) -> u8 {
+    if answer.len() < 4 {
+        return NO_ANSWER;
+    }
+    match answer[2] {
+        16 => KNOWN,
+        19 => UNKNOWN,
+        _ => STRANGE,
+    }
+}
+
+// A point query of a book of zeros. It answers how many bytes the record has.
+fn compare_zeros(list: &[u8], counts: &mut [u64]) -> usize
+    ensures { λ r. ⌜ (1 ≤ r) × (r ≤ 8589934671) ⌝ }
+{
+    let expected = count(number(list, 0, 0));
+    let to = HEAD + count(number(list, 0, 1));
+    let length = count(number(list, 0, 2));
+    let room = count(number(list, 0, 3));
+    let at = unplace(number(list, 0, 5));
+    if list.len() < to {
+        met(counts, STRANGE, true);
+        return 1;
+    }
+    let answer = &list[HEAD..to];
+    met(
+        counts,
+        place(expected),
+        is_zeros_answered(length, at, room, expected, answer),
+    );
+    met(counts, kind_place(answer), true);
+    to
+}
+
+// A point query of a book that the record holds.
+fn compare_book(list: &[u8], counts: &mut [u64]) -> usize
+    ensures { λ r. ⌜ (1 ≤ r) × (r ≤ 8589934671) ⌝ }
+{
+    let expected = count(number(list, 0, 0));
+    let from = HEAD + count(number(list, 0, 2));
+    let to = from + count(number(list, 0, 1));
+    let room = count(number(list, 0, 3));
+    let at = unplace(number(list, 0, 5));
+    if list.len() < to {
+        met(counts, STRANGE, true);
+        return 1;
+    }
+    let answer = &list[from..to];
+    met(
+        counts,
+        place(expected),
+        is_answered(&list[HEAD..from], at, room, expected, answer),
+    );
+    met(counts, kind_place(answer), true);
+    to
+}
+
+// Asks what the first record of a list asks, and answers how many bytes the record has. A byte that is no kind is one of its own.
+fn compare(list: &[u8], kind: u8, counts: &mut [u64]) -> usize
+    ensures { λ r. ⌜ (1 ≤ r) × (r ≤ 8589934671) ⌝ }
+{
+    if kind == 0 {
+        return 1;
+    }
+    if kind != POINT {
+        met(counts, STRANGE, true);
+        return 1;
+    }
+    if 0 < count(number(list, 0, 4)) {
+        return compare_zeros(list, counts);
+    }
+    compare_book(list, counts)
+}
+
+fn all_records(list: &[u8], counts: &mut [u64]) {
+    let mut at: usize = 0;
+    while at < list.len() {
+        at += compare(&list[at..], list[at], counts);
+    }
+}
+
+// The next block of the file. It answers whether there was one.
+fn next_block(fd: i32, counts: &mut [u64]) -> bool {
+    let mut block = io::large_buffer();
+    let n = io::read_full(fd, &mut block);
+    all_records(&block[..n], counts);
+    0 < n
+}
+
+fn all_blocks(fd: i32, counts: &mut [u64]) {
+    let mut turns = cases::BLOCKS;
+    while turns > 0 && next_block(fd, counts) {
+        turns -= 1;
+    }
+}
+
+fn told_low(counts: &[u64]) {
+    report(b"answered ", counts, 1);
+    report(b"known points ", counts, KNOWN);
+    report(b"unknown points ", counts, UNKNOWN);
+    report(b"refused by 1 ", counts, 2);
+    report(b"refused by 2 ", counts, 3);
+    report(b"refused by 3 ", counts, 4);
+    report(b"refused by 4 ", counts, 5);
+    report(b"refused by 5 ", counts, 6);
+}
+
+fn told_high(counts: &[u64]) {
+    report(b"refused by 6 ", counts, 7);
+    report(b"refused by 7 ", counts, 8);
+    report(b"refused by 8 ", counts, 9);
+    report(b"refused by 9 ", counts, 10);
+    report(b"refused by 10 ", counts, 11);
+    report(b"refused by 16 ", counts, 17);
+    report(b"differences ", counts, 0);
+    report(b"bytes of the list not understood ", counts, STRANGE);
+}
+
+fn main() {
+    let fd = os::open_read(b"list");
+    if fd < 0 {
+        os::fail(b"list");
+        return;
+    }
+    let mut counts = [0u64; PLACES];
+    all_blocks(fd, &mut counts);
+    libc::close(fd);
+    told_low(&counts);
+    told_high(&counts);
+}
