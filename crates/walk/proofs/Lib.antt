@@ -1,5 +1,6 @@
 pub mod Edges
 pub mod Filling
+pub mod Laws
 pub mod Near
 pub mod Pieces
 pub mod Rest

@@ -2,14 +2,13 @@
 use mathlib.Core.Path.{_≡_, sym, subst}
 use mathlib.Core.Bool.{Bool, true, false}
 use mathlib.Core.List.{List}
-use mathlib.Core.Option.{none}
-use Prim.Native.Nat.{ℕ, zero, suc, _+_, _-_, _*_, _≤_, _<_, min, max}
+use Prim.Native.Nat.{ℕ, zero, suc, _+_, _-_, _≤_, _<_, max}
 use native.Mathlib.Decide.{decLt}
 use native.Mathlib.Omega.{arith}
 use lib.Dec.{eqb}
 use lib.ListN.{length}
-use Rattle.zone.specs.Units.{dayNs, mostNs, mostOffset, nearestReading, readingAt}
-use Rattle.zone.specs.Zone.{Zone, zoneOf, byBefore, byAfter, reads, resolve, resolved, offsetAt}
+use Rattle.zone.specs.Units.{dayNs, mostNs, nearestReading, readingAt}
+use Rattle.zone.specs.Zone.{Zone, zoneOf, byBefore, byAfter, reads, resolve, resolved}
 use Rattle.zone.specs.Answers.{Valid, taken}
 use Rattle.zone.proofs.Offsets.{offset-most}
 use Rattle.records.specs.Records.{Rule}

@@ -3,9 +3,9 @@
 use mathlib.Core.Path.{_≡_, refl, sym, ap, ap₂, _∙_, subst}
 use mathlib.Core.Bool.{Bool, true, false, cond, _||_}
 use mathlib.Core.List.{List, [], _∷_, _++_}
-use mathlib.Core.Option.{Option, none, some}
+use mathlib.Core.Option.{Option, none}
 use Prim.Native.Nat.{ℕ, zero, suc, _+_, _-_, _≤_, _<_, min, max}
-use native.Mathlib.Decide.{decLt, ℕ-discrete}
+use native.Mathlib.Decide.{decLt}
 use native.Mathlib.Numerals.{add-one}
 use native.Mathlib.Omega.{arith}
 use borrow.Author.Tests.{lt-ltb, le-ltb, leb-true, leb-false, eqb-true, eqb-false}
@@ -24,14 +24,13 @@ use Rattle.spans.specs.Timeline.{Edge, Venue, midnight, ofRule, spans, walk}
 use Rattle.spans.proofs.Loops.{clip-from, clip-keep, turn-any}
 use Rattle.day.specs.Days.{Held, venueBy}
 use Rattle.day.specs.Meaning.{ruled}
-use Rattle.day.specs.Meaning as Meaning
 use Rattle.day.specs.declared.Governed.{Governed}
 use Rattle.day.specs.declared.Governed.the-variants.{Nothing, By}
 use Rattle.day.proofs.Points.{points-same}
-use Rattle.walk.specs.Walking.{ruleEdges, edgeInstants, onDate, onward, restWith, rest, Kept, Stands, heldIn, shownPart, startEdge, endEdge, Showing, Begun, Comes}
+use Rattle.walk.specs.Walking.{ruleEdges, edgeInstants, onDate, onward, restWith, rest, Kept, Stands, heldIn, shownPart, endEdge, Showing, Begun, Comes}
 use Rattle.walk.specs.declared.Walk.{Walk}
 use Rattle.walk.specs.declared.Piece.{Piece}
-use Rattle.walk.proofs.Edges.{nowhere, left, edgeAt, instantAt, pointAt, edges-length, instant-next, instant-last, edge-is, edge-end, left-all, left-one, left-within, left-none}
+use Rattle.walk.proofs.Edges.{nowhere, left, edgeAt, instantAt, pointAt, edges-length, edge-is, edge-end, left-all, left-one, left-within, left-none}
 use Rattle.walk.proofs.Near.{short}
 
 -- ---- the spans of a date, clipped

@@ -12,10 +12,9 @@ returns c =
     rw (lt-ltb _ _ (at-if1 .if1 .taken))
 
 midnight-after-requires : tie.Need-midnight-after-requires
-midnight-after-requires c κs = search needs
-
-earlier-requires : tie.Need-earlier-requires
-earlier-requires c κs = search needs
+midnight-after-requires c κs =
+    let at-start = c .before .before .before .before .before .before .before .before in
+    (at-start .pre)
 
 returns-2 : tie.Need-returns-2
 returns-2 c =
@@ -25,4 +24,4 @@ returns-2 c =
     rw (le-ltb _ _ (at-if1 .if1 .left)) ((at-earlier .earlier .ensures) ∙ ap (min _) (ap (λ (b : Boundary). b .at .0) (at-midnight-after .midnight-after .ensures)))
 
 pub onward-spec : {M : Type 1} → statement M
-onward-spec = tie.close (tie.spec returns midnight-after-requires earlier-requires returns-2)
+onward-spec = tie.close (tie.spec returns midnight-after-requires (λ c κs. search needs) returns-2)

@@ -1,6 +1,5 @@
 use borrow.Author.Needs.{needs}
 use native.Mathlib.Omega.{arith}
-use Prim.Native.Nat.{_≤_}
 use mathlib.Core.Path.{_≡_, refl, _∙_}
 use mathlib.Core.Logic.{⊎-elim}
 use mathlib.Core.List.{map, []}
@@ -40,15 +39,6 @@ turns-holds : tie.Need-turns-holds Inv-turns μ-turns
 turns-holds c =
     let at-start = c .before .before .before .before in
     record { stands = (at-start .pre) .2; same = refl }
-
-enum-told : tie.Need-enum-told Inv-turns μ-turns
-enum-told c = search needs
-
-enum-known-governed : tie.Need-enum-known-governed Inv-turns μ-turns
-enum-known-governed c = search needs
-
-cast-rule-points : tie.Need-cast-rule-points Inv-turns μ-turns
-cast-rule-points c = search needs
 
 rule-points-requires : tie.Need-rule-points-requires Inv-turns μ-turns
 rule-points-requires c κs =
@@ -93,12 +83,6 @@ element-copy-out-end c =
     let at-if1 = c .before .before .before in
     let at-rule-points = at-if1 .before .before .before .before .before in
     let n = (at-rule-points .rule-points .ensures) in let t = (at-if1 .if1 .taken) in omega (arith, n, t)
-
-earlier-requires : tie.Need-earlier-requires Inv-turns μ-turns
-earlier-requires c κs = search needs
-
-later-requires : tie.Need-later-requires Inv-turns μ-turns
-later-requires c κs = search needs
 
 add-t26 : tie.Need-add-t26 Inv-turns μ-turns
 add-t26 c =
@@ -178,9 +162,9 @@ pull-spec =
     Inv-turns
     μ-turns
     turns-holds
-    enum-told
-    enum-known-governed
-    cast-rule-points
+    (λ c. search needs)
+    (λ c. search needs)
+    (λ c. search needs)
     rule-points-requires
     showing-requires
     mul-start
@@ -188,8 +172,8 @@ pull-spec =
     add-end
     mul-end
     element-copy-out-end
-    earlier-requires
-    later-requires
+    (λ c κs. search needs)
+    (λ c κs. search needs)
     add-t26
     returns
     onward-requires

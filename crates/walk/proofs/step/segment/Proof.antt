@@ -8,17 +8,20 @@ use borrow.Author.Needs.{needs}
 use Rattle.walk.proofs.step.segment.Statement.{statement}
 use Rattle.walk.proofs.step.segment.Tie as tie
 
-cast-place : tie.Need-cast-place
-cast-place c = search needs
-
 rule-uncertainty-requires : tie.Need-rule-uncertainty-requires
-rule-uncertainty-requires c κs = search needs
+rule-uncertainty-requires c κs =
+    let at-start = c .before .before .before .before .before in
+    (at-start .pre) .1 .listed
 
 point-time-requires : tie.Need-point-time-requires
-point-time-requires c κs = search needs
+point-time-requires c κs =
+    let at-start = c .before .before .before .before .before .before in
+    ((at-start .pre) .1 .listed, (at-start .pre) .1 .point)
 
 to-utc-at-requires : tie.Need-to-utc-at-requires
-to-utc-at-requires c κs = search needs
+to-utc-at-requires c κs =
+    let at-start = c .before .before .before .before .before .before .before in
+    (at-start .pre) .0
 
 add-if1 : tie.Need-add-if1
 add-if1 c =
@@ -26,10 +29,9 @@ add-if1 c =
     let f = (at-start .pre) .1 in omega (arith, f .point, good-rule ((at-start .args .book) .now) ((at-start .args .q) .rule) (f .listed) .few)
 
 rule-points-requires : tie.Need-rule-points-requires
-rule-points-requires c κs = search needs
-
-add-point-time : tie.Need-add-point-time
-add-point-time c = search needs
+rule-points-requires c κs =
+    let at-start = c .before .before .before .before .before .before .before .before in
+    (at-start .pre) .1 .listed
 
 point-time-requires-2 : tie.Need-point-time-requires-2
 point-time-requires-2 c κs =
@@ -39,13 +41,19 @@ point-time-requires-2 c κs =
     let f = (at-start .pre) .1 in (f .listed, omega (arith, (at-if1 .if1 .taken), (at-rule-points .rule-points .ensures) .0))
 
 to-utc-at-requires-2 : tie.Need-to-utc-at-requires-2
-to-utc-at-requires-2 c κs = search needs
+to-utc-at-requires-2 c κs =
+    let at-start = c .before .before .before .before .before .before .before .before .before .before .before in
+    (at-start .pre) .0
 
 midnight-after-requires : tie.Need-midnight-after-requires
-midnight-after-requires c κs = search needs
+midnight-after-requires c κs =
+    let at-start = c .before .before .before .before .before .before .before .before .before .before in
+    (at-start .pre) .0
 
 point-phase-requires : tie.Need-point-phase-requires
-point-phase-requires c κs = search needs
+point-phase-requires c κs =
+    let at-start = c .before .before .before .before .before .before .before .before .before .before .before .before in
+    ((at-start .pre) .1 .listed, (at-start .pre) .1 .point)
 
 returns : tie.Need-returns
 returns c =
@@ -70,13 +78,13 @@ pub segment-spec : {M : Type 1} → statement M
 segment-spec =
     tie.close
     (tie.spec
-    cast-place
+    (λ c. search needs)
     rule-uncertainty-requires
     point-time-requires
     to-utc-at-requires
     add-if1
     rule-points-requires
-    add-point-time
+    (λ c. search needs)
     point-time-requires-2
     to-utc-at-requires-2
     midnight-after-requires

@@ -30,9 +30,6 @@ shared-slice-read-later c =
     let at-start = at-loop .before .before in
     let t = (at-loop-test .loop-test .taken) in let f = (at-loop .loop .inv) in let p = (at-start .pre) in omega (arith, t, f .most, p)
 
-later-requires : tie.Need-later-requires Inv-loop μ-loop
-later-requires c κs = search needs
-
 add-earlier : tie.Need-add-earlier Inv-loop μ-loop
 add-earlier c =
     let at-loop-test = c .before .before in
@@ -53,9 +50,6 @@ shared-slice-read-earlier c =
     let at-loop = at-loop-test .before in
     let at-start = at-loop .before .before in
     let t = (at-loop-test .loop-test .taken) in let f = (at-loop .loop .inv) in let p = (at-start .pre) in omega (arith, t, f .most, p)
-
-earlier-requires : tie.Need-earlier-requires Inv-loop μ-loop
-earlier-requires c κs = search needs
 
 returns : tie.Need-returns Inv-loop μ-loop
 returns c =
@@ -116,11 +110,11 @@ showing-spec =
     loop-holds
     mul-later
     shared-slice-read-later
-    later-requires
+    (λ c κs. search needs)
     add-earlier
     mul-earlier
     shared-slice-read-earlier
-    earlier-requires
+    (λ c κs. search needs)
     returns
     add-i
     loop-less

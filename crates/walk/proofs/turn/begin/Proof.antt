@@ -12,16 +12,14 @@ use Rattle.walk.proofs.turn.begin.Statement.{statement}
 use Rattle.walk.proofs.turn.begin.Tie as tie
 
 day-at-requires : tie.Need-day-at-requires
-day-at-requires c κs = search needs
+day-at-requires c κs =
+    let at-start = c .before .before .before .before in
+    (at-start .pre) .0
 
 governing-requires : tie.Need-governing-requires
-governing-requires c κs = search needs
-
-enum-told : tie.Need-enum-told
-enum-told c = search needs
-
-enum-known-governed : tie.Need-enum-known-governed
-enum-known-governed c = search needs
+governing-requires c κs =
+    let at-start = c .before .before .before .before .before in
+    (at-start .pre) .1
 
 boundaries-requires : tie.Need-boundaries-requires
 boundaries-requires c κs =
@@ -55,8 +53,8 @@ begin-spec =
     (tie.spec
     day-at-requires
     governing-requires
-    enum-told
-    enum-known-governed
+    (λ c. search needs)
+    (λ c. search needs)
     boundaries-requires
     returns
     returns-2)

@@ -40,9 +40,6 @@ to-utc-at-requires c κs =
     let at-start = c .before .before .before .before .before .before .before .before in
     (at-start .pre) .0
 
-later-requires : tie.Need-later-requires Inv-loop μ-loop
-later-requires c κs = search needs
-
 mul-edges : tie.Need-mul-edges Inv-loop μ-loop
 mul-edges c =
     let at-loop-test = c .before .before .before .before in
@@ -89,9 +86,6 @@ midnight-after-requires c κs =
     let at-start = c .before .before .before .before .before .before .before in
     (at-start .pre) .0
 
-later-requires-2 : tie.Need-later-requires-2 Inv-loop μ-loop
-later-requires-2 c κs = search needs
-
 mul-edges-2 : tie.Need-mul-edges-2 Inv-loop μ-loop
 mul-edges-2 c =
     let at-loop = c .before .before .before .before in
@@ -133,14 +127,14 @@ boundaries-spec =
     loop-holds
     point-time-requires
     to-utc-at-requires
-    later-requires
+    (λ c κs. search needs)
     mul-edges
     slice-write-edges
     add-i
     loop-less
     loop-again
     midnight-after-requires
-    later-requires-2
+    (λ c κs. search needs)
     mul-edges-2
     slice-write-edges-2
     same-length

@@ -1,0 +1,143 @@
+-- What good rows are, for those who read them. Assumes nothing.
+use mathlib.Core.Path.{_≡_, refl, sym, ap, _∙_}
+use mathlib.Core.Bool.{Bool, true, false, _&&_, _||_}
+use mathlib.Core.List.{List, [], _∷_}
+use Prim.Native.Nat.{ℕ, zero, suc, _+_, _*_, _^_, _≤_, _<_}
+use native.Mathlib.Omega.{arith}
+use borrow.Author.Tests.{le-leb, lt-leb, eqb-true}
+use lib.Dec.{eqb}
+use lib.ListN.{length}
+use Rattle.wire.proofs.Signs.{and-true}
+use Rattle.spans.specs.Spans.{Within}
+use Rattle.rows.specs.Rows.{Row, Here, toAt, behindPhase, behindGap, behindMark, enough, left, eventsFrom, segments, segmentsAt, rowsFrom, rows}
+use Rattle.rows.specs.Rows.{goodEvent, goodMark, goodEvents, goodFrom, goodRow, goodRows}
+use Rattle.rows.specs.Telling.{markAt, rowsAt}
+use Rattle.rows.proofs.Turns.{untrue, phase-holds, gap-holds, mark-holds, event-holds, Goes, ends, phases, gaps, anew, none, goes, at-end}
+use Rattle.rows.proofs.Places.{ended, segments-phase, segments-gap, segments-mark, mark-phase, mark-gap, mark-mark}
+
+-- ---- where to begin
+
+pub here-row : (s : List ℕ) → goodRow s ≡ true → Here s 0
+unfolding goodRow
+here-row s e = record { marks = false; looks = enough s; least = 0; good = e }
+
+-- no bytes, or a mark first
+begun : (s : List ℕ) → goodRows s ≡ true → (goodFrom true (enough s) s 0 0 ≡ true) × (markAt s 0 ≡ 0) × (segmentsAt s 0 ≡ [])
+unfolding goodRows
+begun s e = go (eqb (length s) 0) refl e
+  where
+    go : (b : Bool) → eqb (length s) 0 ≡ b → (b || (goodMark s 0 && goodFrom true (enough s) s 0 0)) ≡ true
+        → (goodFrom true (enough s) s 0 0 ≡ true) × (markAt s 0 ≡ 0) × (segmentsAt s 0 ≡ [])
+    go true i q =
+        let z : 0 ≡ length s = sym (eqb-true (length s) 0 i) in
+        let t = ended s 0 z in
+        (at-end true s 0 0 (length s) z, t .next, t .segments)
+    go false i q =
+        let a = and-true (goodMark s 0) (goodFrom true (enough s) s 0 0) q in
+        let m = mark-holds s 0 (a .0) in
+        let h : 0 < length s = omega (arith, m .0) in
+        (a .1, mark-mark s 0 h (m .1), segments-mark s 0 h (m .1))
+
+pub here-rows : (s : List ℕ) → goodRows s ≡ true → Here s 0
+here-rows s e = record { marks = true; looks = enough s; least = 0; good = begun s e .0 }
+
+-- the first mark stands first, so all rows are still to come
+pub rows-begin : (s : List ℕ) → goodRows s ≡ true → (rows s ≡ rowsAt s (markAt s 0)) × (segmentsAt s 0 ≡ [])
+rows-begin s e =
+    let b = begun s e in
+    let z : enough s ≡ left s 0 = omega arith in
+    (ap (λ (n : ℕ). rowsFrom n s 0) z ∙ ap (λ (p : ℕ). rowsAt s p) (sym (b .1)), b .2)
+
+-- ---- segments are not empty, in order, and do not overlap
+
+module _ (marks : Bool) (s : List ℕ) where
+  pub within-from : (n at least : ℕ) → goodFrom marks n s at least ≡ true → least ≤ 2 ^ 64 → Within least (2 ^ 64) (segmentsAt s at)
+  within-from zero at least g h = absurd (none marks s at least g)
+  within-from (suc n) at least g h = go (goes marks s at least n g) (λ b l. within-from n b l)
+    where
+      go : Goes marks n s at least → ((b l : ℕ) → goodFrom marks n s b l ≡ true → l ≤ 2 ^ 64 → Within l (2 ^ 64) (segmentsAt s b))
+          → Within least (2 ^ 64) (segmentsAt s at)
+      go (ends e) on = rw (ended s at e .segments) h
+      go (phases p l v f) on =
+          let t = phase-holds s at p in
+          rw (segments-phase s at (omega (arith, t .whole)) (t .kind)) (l, t .forward, on (behindPhase s at) (toAt s at) f (omega arith))
+      go (gaps p l f) on =
+          let t = gap-holds s at p in
+          rw (segments-gap s at (omega (arith, t .whole)) (t .kind)) (l, t .forward, on (behindGap at) (toAt s at) f (omega arith))
+      go (anew e p f) on = let t = mark-holds s at p in rw (segments-mark s at (omega (arith, t .0)) (t .1)) h
+
+pub good-within : (s : List ℕ) → goodRow s ≡ true → Within 0 (2 ^ 64) (segments s)
+unfolding goodRow
+good-within s e = within-from false s (enough s) 0 0 e (omega arith)
+
+-- of every row
+abbrev pub RowsWithin : List Row → Type 0
+RowsWithin [] = Unit {0}
+RowsWithin (r ∷ rs) = Within 0 (2 ^ 64) (r .segments) × RowsWithin rs
+
+-- a place where no row is open
+data AtMark (s : List ℕ) (at : ℕ) : Type 0 where
+  over : length s ≤ at → AtMark s at
+  begins : goodMark s at ≡ true → (n : ℕ) → goodFrom true n s (behindMark at) 0 ≡ true → AtMark s at
+
+to-mark : (s : List ℕ) (n at least : ℕ) → goodFrom true n s at least ≡ true → AtMark s (markAt s at)
+to-mark s zero at least g = absurd (none true s at least g)
+to-mark s (suc n) at least g = go (goes true s at least n g) (λ b l. to-mark s n b l)
+  where
+    go : Goes true n s at least → ((b l : ℕ) → goodFrom true n s b l ≡ true → AtMark s (markAt s b)) → AtMark s (markAt s at)
+    go (ends e) on = rw (ended s at e .next) (over (omega arith))
+    go (phases p l v f) on =
+        let t = phase-holds s at p in
+        rw (mark-phase s at (omega (arith, t .whole)) (t .kind)) (on (behindPhase s at) (toAt s at) f)
+    go (gaps p l f) on = let t = gap-holds s at p in rw (mark-gap s at (omega (arith, t .whole)) (t .kind)) (on (behindGap at) (toAt s at) f)
+    go (anew e p f) on = let t = mark-holds s at p in rw (mark-mark s at (omega (arith, t .0)) (t .1)) (begins p n f)
+
+rows-within : (s : List ℕ) (m at : ℕ) → AtMark s at → RowsWithin (rowsFrom m s at)
+unfolding rowsFrom
+rows-within s zero at a = tt
+rows-within s (suc m) at (over h) = rw (le-leb (length s) at h) tt
+rows-within s (suc m) at (begins p n f) =
+    let t = mark-holds s at p in
+    let b = behindMark at in
+    rw (lt-leb (length s) at (omega (arith, t .0))) (within-from true s n b 0 f (omega arith), rows-within s m (markAt s b) (to-mark s n b 0 f))
+
+pub good-rows-within : (s : List ℕ) → goodRows s ≡ true → RowsWithin (rows s)
+good-rows-within s e =
+    let b = begun s e in
+    rows-within s (enough s) 0 (rw (b .1) at (to-mark s (enough s) 0 0 (b .0)))
+
+-- ---- a good row has no mark: the next one is the end
+
+unmarked : (s : List ℕ) (n at least : ℕ) → goodFrom false n s at least ≡ true → markAt s at ≡ length s
+unmarked s zero at least g = absurd (none false s at least g)
+unmarked s (suc n) at least g = go (goes false s at least n g) (λ b l. unmarked s n b l)
+  where
+    go : Goes false n s at least → ((b l : ℕ) → goodFrom false n s b l ≡ true → markAt s b ≡ length s) → markAt s at ≡ length s
+    go (ends e) on = ended s at e .next ∙ e
+    go (phases p l v f) on = let t = phase-holds s at p in mark-phase s at (omega (arith, t .whole)) (t .kind) ∙ on (behindPhase s at) (toAt s at) f
+    go (gaps p l f) on = let t = gap-holds s at p in mark-gap s at (omega (arith, t .whole)) (t .kind) ∙ on (behindGap at) (toAt s at) f
+    go (anew e p f) on = absurd (untrue e)
+
+pub row-unmarked : (s : List ℕ) → goodRow s ≡ true → markAt s 0 ≡ length s
+unfolding goodRow
+row-unmarked s e = unmarked s (enough s) 0 0 e
+
+-- ---- events: as many as are counted, and each stands there whole and good
+
+pub events-counted : (s : List ℕ) (at n : ℕ) → length (eventsFrom s at n) ≡ n
+unfolding eventsFrom
+events-counted s at zero = refl
+events-counted s at (suc n) = ap suc (events-counted s (at + 35) n)
+
+pub each-event : (s : List ℕ) (at n : ℕ) → goodEvents s at n ≡ true → (i : ℕ) → i < n
+    → (goodEvent s (at + 35 * i) ≡ true) × (at + 35 * i + 35 ≤ length s)
+unfolding goodEvents
+each-event s at zero e i h = absurd (omega arith)
+each-event s at (suc n) e zero h =
+    let a = and-true (goodEvent s at) (goodEvents s (at + 35) n) e in
+    let z : at + 35 * 0 ≡ at = omega arith in
+    rw z (a .0, event-holds s at (a .0))
+each-event s at (suc n) e (suc i) h =
+    let a = and-true (goodEvent s at) (goodEvents s (at + 35) n) e in
+    let z : at + 35 * suc i ≡ at + 35 + 35 * i = omega arith in
+    rw z (each-event s (at + 35) n (a .1) i (omega arith))

@@ -1,0 +1,5 @@
+pub mod Rows
+pub mod Telling
+pub mod Private
+pub mod Written
+pub mod Examples

@@ -1,0 +1,94 @@
+-- Demand 3: for every accepted book and every accepted window, the answer's segments are not empty, in order, do not overlap and lie inside
+-- the window, and two that touch differ in phase or evidence. Assumes nothing.
+use mathlib.Core.Path.{_≡_, refl, sym, ap}
+use mathlib.Core.Bool.{Bool, true, false, cond}
+use mathlib.Core.List.{List, [], _∷_}
+use mathlib.Core.Option.{Option, none, some}
+use Prim.Native.Nat.{ℕ, _<_}
+use borrow.Author.Tests.{eq-eqb}
+use lib.Dec.{ltb}
+use lib.IntN.{ℤ}
+use Rattle.zone.specs.declared.Instant.{Instant}
+use Rattle.records.specs.Limits.{base}
+use Rattle.records.specs.Records.{Coverage, Record}
+use Rattle.records.specs.Book.{refusal, records}
+use Rattle.venue.specs.Opening.{instantOf, coverageOf}
+use Rattle.venue.proofs.Laws.{good-coverage}
+use Rattle.spans.specs.Spans.{Span, keep, Within, Apart}
+use Rattle.spans.specs.Timeline.{Part, unjoined, timeline, blank}
+use Rattle.spans.proofs.Joining.{joined-within, joined-apart}
+use Rattle.spans.proofs.Plain.{unjoined-within, blank-shape}
+use Rattle.day.specs.Days.{valuesOf}
+use Rattle.query.specs.Judging.{windowRefusal, windowOf}
+use Rattle.query.specs.declared.Window.{Window}
+use Rattle.query.specs.declared.Window.the-variants.{Refused, Between}
+use Rattle.query.proofs.Windows.{window-between}
+use Rattle.answer.specs.Forms.{Cover}
+use Rattle.tell.specs.Shown.{Shown}
+use Rattle.timeline.specs.Segments.{segments, showing, timelineOf}
+use Rattle.timeline.specs.Asking.{timelineForms, byCoverage, windowForms}
+use Rattle.timeline.proofs.Parts.{merges}
+
+-- the segments of an answer, and the coverage that it states
+abbrev pub segmentsBy : List Record → Part → Option Coverage → List (Span (Option Shown))
+segmentsBy rs w none = blank none w
+segmentsBy rs w (some c) = timelineOf (valuesOf rs c) w
+
+abbrev pub segmentsOf : List ℕ → ℤ → ℤ → List (Span (Option Shown))
+segmentsOf s m n = segmentsBy (records s) (record { start = instantOf m; end = instantOf n }) (coverageOf (records s))
+
+abbrev pub statedCover : Option Coverage → Option Cover
+statedCover none = none
+statedCover (some c) = some (record { start = c .start; end = c .end })
+
+pub record Shape (s : List ℕ) (m n : ℤ) : Type 0 where
+  pub forms : windowForms s m n ≡ timelineForms (statedCover (coverageOf (records s))) (segmentsOf s m n)
+  pub within : Within (instantOf m) (instantOf n) (segmentsOf s m n)
+  pub apart : Apart segments (segmentsOf s m n)
+
+-- a window that passes ends after its start
+window-order : (m n : ℤ) → windowRefusal m n ≡ 0 → instantOf m < instantOf n
+unfolding windowOf
+window-order m n e =
+    let a : Instant = record { 0 = instantOf m } in
+    let b : Instant = record { 0 = instantOf n } in
+    window-between m n {a = a} {b = b} (sym (ap (λ (q : Bool). cond q (Between a b) (Refused (windowRefusal m n))) (eq-eqb (windowRefusal m n) 0 e))) .order
+
+module _ (rs : List Record) (w : Part) (h : w .start < w .end) where
+  forms-by : (o : Option Coverage) → byCoverage rs w o ≡ timelineForms (statedCover o) (segmentsBy rs w o)
+  forms-by none = refl
+  forms-by (some c) = refl
+
+  within-by : (o : Option Coverage) → ((c : Coverage) → o ≡ some c → instantOf (c .start) < instantOf (c .end)) → Within (w .start) (w .end) (segmentsBy rs w o)
+  unfolding timeline
+  within-by none k = blank-shape segments none w refl h
+  within-by (some c) k =
+      let v = valuesOf rs c in
+      let spans = unjoined (showing (v .zone) (v .governing) (v .events)) none (v .coverage) w in
+      joined-within segments (w .start) (w .end) spans (unjoined-within (showing (v .zone) (v .governing) (v .events)) none (v .coverage) w (k c refl) h)
+
+  apart-by : (o : Option Coverage) → Apart segments (segmentsBy rs w o)
+  unfolding timeline blank keep
+  apart-by none = go (ltb (w .start) (w .end))
+    where
+      gap : Span (Option Shown)
+      gap = record { from = w .start; to = w .end; body = none }
+
+      go : (b : Bool) → Apart segments (cond b (gap ∷ []) [])
+      go true = (tt, tt)
+      go false = tt
+  apart-by (some c) =
+      let v = valuesOf rs c in
+      joined-apart segments merges (unjoined (showing (v .zone) (v .governing) (v .events)) none (v .coverage) w)
+
+-- for every accepted book and every accepted window
+pub window-shape : (s : List ℕ) (m n : ℤ) → refusal base s ≡ 0 → windowRefusal m n ≡ 0 → Shape s m n
+window-shape s m n z e =
+    let rs = records s in
+    let w : Part = record { start = instantOf m; end = instantOf n } in
+    let h = window-order m n e in
+    record {
+      forms = forms-by rs w h (coverageOf rs);
+      within = within-by rs w h (coverageOf rs) (λ c q. good-coverage s z c q .order);
+      apart = apart-by rs w h (coverageOf rs);
+    }

@@ -1,0 +1,43 @@
+-- The window's answer in bytes: which number a question gets, and what is answered. Assumes nothing.
+use Prim.Native.Nat.{ℕ}
+use mathlib.Core.Bool.{cond}
+use mathlib.Core.List.{List, [], _∷_, _++_}
+use mathlib.Core.Option.{Option, none, some}
+use lib.Dec.{eqb}
+use lib.IntN.{ℤ}
+use Rattle.zone.specs.Units.{instantNumber}
+use Rattle.records.specs.Limits.{base}
+use Rattle.records.specs.Records.{Coverage, Record}
+use Rattle.records.specs.Book.{refusal, records}
+use Rattle.venue.specs.Opening.{instantOf, coverageOf}
+use Rattle.spans.specs.Spans.{Span}
+use Rattle.spans.specs.Timeline.{Part, blank}
+use Rattle.day.specs.Days.{valuesOf}
+use Rattle.query.specs.Judging.{windowRefusal}
+use Rattle.answer.specs.Forms.{Cover, Form, unknown, encodeAll}
+use Rattle.tell.specs.Shown.{Shown, shownForms}
+use Rattle.timeline.specs.Segments.{timelineOf}
+
+-- the book's number, else the window's: 10, 11, 12
+unfoldable pub windowNumber : List ℕ → ℤ → ℤ → ℕ
+windowNumber s start end = cond (eqb (refusal base s) 0) (windowRefusal start end) (refusal base s)
+
+-- kind 17, or kind 16 with its 18s
+abbrev pub segmentForms : Option Cover → ℕ → ℕ → Option Shown → List Form
+segmentForms c from to none = unknown (record { start = instantNumber from; end = instantNumber to; coverage = c }) ∷ []
+segmentForms c from to (some x) = shownForms from to x
+
+unfoldable pub timelineForms : Option Cover → List (Span (Option Shown)) → List Form
+timelineForms c [] = []
+timelineForms c (s ∷ ss) = segmentForms c (s .from) (s .to) (s .body) ++ timelineForms c ss
+
+-- of a venue without data, and of one with coverage
+abbrev pub byCoverage : List Record → Part → Option Coverage → List Form
+byCoverage rs w none = timelineForms none (blank none w)
+byCoverage rs w (some c) = timelineForms (some (record { start = c .start; end = c .end })) (timelineOf (valuesOf rs c) w)
+
+abbrev pub windowForms : List ℕ → ℤ → ℤ → List Form
+windowForms s start end = byCoverage (records s) (record { start = instantOf start; end = instantOf end }) (coverageOf (records s))
+
+unfoldable pub windowAnswer : List ℕ → ℤ → ℤ → List ℕ
+windowAnswer s start end = encodeAll (windowForms s start end)

@@ -1,0 +1,4 @@
+pub mod Segments
+pub mod Asking
+pub mod Private
+pub mod Examples

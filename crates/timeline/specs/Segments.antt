@@ -1,0 +1,56 @@
+-- The timeline of a window: document 01, phase rules 4 and 5, over what a venue's spans show. Assumes nothing.
+use Prim.Native.Nat.{ℕ}
+use mathlib.Core.List.{List, _++_}
+use mathlib.Core.Option.{Option, none, some}
+use Rattle.zone.specs.Zone.{Zone}
+use Rattle.zone.specs.Answers.{widestOf}
+use Rattle.records.specs.Records.{Rule, Event}
+use Rattle.spans.specs.Spans.{Mark, phase, unknown, Span, Body}
+use Rattle.spans.specs.Timeline.{Venue, Part, timeline}
+use Rattle.day.specs.Days.{Values, venueBy}
+use Rattle.tell.specs.Shown.{Shown, shown}
+
+-- ---- joining: touching phases, where phase and evidence agree
+
+abbrev pub phaseMark : Shown → Mark
+phaseMark x = phase (x .held .phase) (x .held .rule .evidence)
+
+-- left code, label, derived and start boundary kept, right end boundary, events appended unsorted, wider whole uncertainty
+abbrev pub joinedShown : Shown → Shown → Shown
+joinedShown a b =
+    record {
+      held = record { start = a .held .start; end = b .held .end; phase = a .held .phase; rule = a .held .rule };
+      whole = widestOf (a .whole) (b .whole);
+      events = a .events ++ b .events;
+    }
+
+abbrev pub phases : Body Shown
+phases = record { mark = phaseMark; merge = joinedShown }
+
+-- ---- a segment shows a phase, or that nothing is known
+
+abbrev pub markOf : Option Shown → Mark
+markOf none = unknown
+markOf (some x) = phaseMark x
+
+abbrev pub merged : Option Shown → Option Shown → Option Shown
+merged none b = none
+merged (some a) none = some a
+merged (some a) (some b) = some (joinedShown a b)
+
+abbrev pub segments : Body (Option Shown)
+segments = record { mark = markOf; merge = merged }
+
+-- ---- a venue whose spans show their whole uncertainty and their events
+
+abbrev pub showing : Zone → (ℕ → Option Rule) → List Event → Venue (Option Shown)
+showing z g es =
+    record {
+      reads = venueBy z g .reads;
+      conv = venueBy z g .conv;
+      governing = g;
+      body = λ r s p e. some (shown z es (venueBy z g .body r s p e));
+    }
+
+abbrev pub timelineOf : Values → Part → List (Span (Option Shown))
+timelineOf v w = timeline segments (showing (v .zone) (v .governing) (v .events)) none (v .coverage) w
