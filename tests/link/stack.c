@@ -1,4 +1,4 @@
-/* How much stack a point query touches: it runs on a painted stack of a thread of its own. */
+/* How much stack a query touches: it runs on a painted stack of a thread of its own. */
 #define _XOPEN_SOURCE 700
 #include "../../include/market_time.h"
 
@@ -19,8 +19,13 @@ static void *nothing(void *unused) {
     return unused;
 }
 
-static void *query(void *unused) {
+static void *point(void *unused) {
     market_time_point(book, used, 1767600000000000000, room, sizeof room);
+    return unused;
+}
+
+static void *window(void *unused) {
+    market_time_window(book, used, 1767600000000000000, 1767686400000000000, room, sizeof room);
     return unused;
 }
 
@@ -51,7 +56,8 @@ int main(void) {
         put(0, 1), put(0, 8), put(0, 2), put(8, 1);
         for (int j = 0; j < 8; j++) put(j * 7200000000000ull, 8);
     }
-    size_t thread = touched(nothing), all = touched(query);
-    printf("point: %zu bytes of stack\n", all - thread);
+    size_t thread = touched(nothing);
+    printf("point: %zu bytes of stack\n", touched(point) - thread);
+    printf("window: %zu bytes of stack\n", touched(window) - thread);
     return 0;
 }
