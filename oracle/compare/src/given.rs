@@ -19,14 +19,8 @@ pub const SETTLEMENT: u16 = 1;
 
 #[derive(Debug, Clone, Copy, PartialEq, Eq)]
 pub enum Query {
-    Point {
-        at: i64,
-    },
-    #[cfg_attr(not(feature = "window"), allow(dead_code))]
-    Window {
-        start: i64,
-        end: i64,
-    },
+    Point { at: i64 },
+    Window { start: i64, end: i64 },
 }
 
 /// A book as the original has it.
