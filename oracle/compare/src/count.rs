@@ -211,7 +211,7 @@ const LENGTHS: [(&str, i64); 7] = [
     ("1 ns", 2),
     ("below 1 s", SECOND),
     ("below 1 day", DAY as i64),
-    ("below 40 days", 40 * DAY as i64),
+    ("to 40 days", 40 * DAY as i64 + 1),
     ("below 3,660 days", 3_660 * DAY as i64),
     ("3,660 to 3,700 days", ask::LONGEST_WINDOW + 1),
     ("longer", i64::MAX),
