@@ -10,7 +10,7 @@ use market_time_core as given;
 use market_time_core::{
     CivilDaySchedule, CoverageRange, DatasetRevision, DatasetRevisionId, DateRange, DerivationNote,
     EventKind, EventOccurrence, EventRule, EvidenceRef, IanaZoneId, Interval, PhaseAnswer,
-    PhaseOutcome, RuleKind, Ruleset, TimelineSegment, Uncertainty, UtcInstant, VenueId,
+    PhaseOutcome, RuleKind, Ruleset, Timeline, TimelineSegment, Uncertainty, UtcInstant, VenueId,
     VenueProfile, VenueRuleset,
 };
 
@@ -318,13 +318,22 @@ impl Venue {
         out
     }
 
-    fn window(&self, start: i64, end: i64) -> Vec<Answer> {
+    fn timeline(&self, start: i64, end: i64) -> Timeline {
         let asked = Interval {
             start: instant(start),
             end: instant(end),
         };
+        given::resolve_timeline(asked, &self.id, &self.ruleset)
+    }
+
+    /// Whether the Rust's timeline has no hole, as the Rust says itself.
+    pub fn tiles(&self, start: i64, end: i64) -> bool {
+        self.timeline(start, end).tiles_interval()
+    }
+
+    fn window(&self, start: i64, end: i64) -> Vec<Answer> {
         let mut out = Vec::new();
-        for segment in given::resolve_timeline(asked, &self.id, &self.ruleset).segments {
+        for segment in self.timeline(start, end).segments {
             match segment {
                 TimelineSegment::Phase { interval, answer } => {
                     phase_and_events(interval, &answer, &mut out);

@@ -2,6 +2,7 @@
 //!
 //!     compare points --seed S --books N [--from I] [--long]
 //!     compare windows --seed S --books N [--from I] [--long]
+//!     compare places
 //!     compare list --seed S --books N FILE
 //!     compare zones --seed S --books N
 //!
@@ -18,6 +19,7 @@ mod given;
 mod judge;
 mod list;
 mod make;
+mod places;
 mod port;
 mod random;
 mod walk;
@@ -388,13 +390,14 @@ fn run_list(arguments: &Arguments, file: &str) {
 fn main() {
     let Some(arguments) = arguments() else {
         eprintln!(
-            "usage: compare points|windows|list|zones [--seed S] [--from I] [--books N] [--long] [FILE]"
+            "usage: compare points|windows|places|list|zones [--seed S] [--from I] [--books N] [--long] [FILE]"
         );
         exit(2);
     };
     match arguments.what.as_str() {
         "points" => run_points(&arguments),
         "windows" => run_windows(&arguments),
+        "places" => places::run(),
         "list" => run_list(&arguments, arguments.file.as_deref().unwrap_or("list")),
         "zones" => zones::run(arguments.seed, arguments.books),
         other => {
