@@ -224,6 +224,15 @@ fn coverage(range: Option<&CoverageRange>) -> Coverage {
     range.map(|range| (nanos(range.start()), nanos(range.end())))
 }
 
+fn of_dataset(id: DatasetRevisionId) -> DatasetRevision {
+    DatasetRevision {
+        id,
+        supersedes: None,
+        iana_tzdb_version: None,
+        assembled_at: instant(0),
+    }
+}
+
 impl Venue {
     /// The book's values, or its number.
     pub fn open(book: &[u8]) -> Result<Self, u32> {
@@ -272,14 +281,18 @@ impl Venue {
             events,
             evidence: Vec::new(),
         };
-        let revision = DatasetRevision {
-            id: revision,
-            supersedes: None,
-            iana_tzdb_version: None,
-            assembled_at: instant(0),
-        };
-        venue.ruleset = Ruleset::door_unchecked(vec![revision], vec![(rules, zone)]);
+        venue.ruleset = Ruleset::door_unchecked(vec![of_dataset(revision)], vec![(rules, zone)]);
         venue
+    }
+
+    /// The name of the error that `from_parts` gives for these rules, if it gives one.
+    pub fn refused_by_from_parts(&self) -> Option<String> {
+        let (rules, zone) = self.parts()?;
+        TimeZone::register("z", zone);
+        let revision = DatasetRevisionId::new("r").expect("a revision");
+        let error = Ruleset::from_parts(vec![of_dataset(revision)], vec![rules.clone()]).err()?;
+        let told = format!("{error:?}");
+        told.split(' ').next().map(str::to_owned)
     }
 
     /// The original's rules and zone; none for a book of zero bytes.

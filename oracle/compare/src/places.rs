@@ -741,5 +741,41 @@ pub fn run() {
         println!("DIFFERENCE: tiles_interval");
         exit(1);
     }
-    println!("places {}", places.len());
+    for (name, rules, expected) in unchecked() {
+        let mut records = vec![covering(0, DAY, 0)];
+        records.extend(rules.into_iter().map(Record::Rule));
+        let bytes = book::encode(&records);
+        let venue = Venue::open(&bytes).expect("an accepted book");
+        let (number, _) = port::ask(&bytes, &point(0), &mut Room::new(105));
+        assert_eq!(number, 0, "accepted by the port");
+        let refused = venue.refused_by_from_parts();
+        println!(
+            "from_parts: {name}\n  {}",
+            refused.as_deref().unwrap_or("taken")
+        );
+        if refused.as_deref() != expected {
+            println!("DIFFERENCE: expected {expected:?}");
+            exit(1);
+        }
+    }
+    println!("places {}", places.len() + unchecked().len());
+}
+
+/// Books of Monday alone that document 01 accepts, and the error that the Rust's `from_parts` has for them.
+fn unchecked() -> Vec<(&'static str, Vec<Rule>, Option<&'static str>)> {
+    let until = |day: i64, mask| Rule {
+        first: MONDAY as i32,
+        last: (MONDAY + day) as i32,
+        ..weekly(mask, &[(0, 0)])
+    };
+    vec![
+        ("a rule for the date", vec![until(0, 127)], None),
+        ("no rule", vec![], Some("UncoveredDate")),
+        ("a mask of 0", vec![until(0, 0)], Some("UncoveredDate")),
+        (
+            "a rule for Tuesday too",
+            vec![until(1, 127)],
+            Some("RuleOutsideCoverage"),
+        ),
+    ]
 }
