@@ -241,9 +241,15 @@ fn run_points(arguments: &Arguments) {
     }
 }
 
-/// The books of one place of a run of windows, each with its windows: as those of points, and one that is made for
-/// what windows meet.
-fn books_and_windows(random: &mut Random) -> Vec<(Vec<u8>, Result<Venue, u32>, Vec<(i64, i64)>)> {
+/// A book and the windows that it is asked.
+struct Asking {
+    bytes: Vec<u8>,
+    opened: Result<Venue, u32>,
+    windows: Vec<(i64, i64)>,
+}
+
+/// The books of one place of a run of windows: as those of points, and one that is made for what windows meet.
+fn books_and_windows(random: &mut Random) -> Vec<Asking> {
     let mut made = Vec::new();
     for (bytes, wanted) in books(random) {
         let opened = Venue::open(&bytes);
@@ -254,7 +260,11 @@ fn books_and_windows(random: &mut Random) -> Vec<(Vec<u8>, Result<Venue, u32>, V
             }
             Err(_) => vec![(ask::far(random), ask::far(random))],
         };
-        made.push((bytes, opened, windows));
+        made.push(Asking {
+            bytes,
+            opened,
+            windows,
+        });
     }
     let years = random.below(7) == 0;
     let records = if years {
@@ -270,7 +280,11 @@ fn books_and_windows(random: &mut Random) -> Vec<(Vec<u8>, Result<Venue, u32>, V
     if years {
         windows.extend(ask::long_windows(random, venue, 2));
     }
-    made.push((bytes, opened, windows));
+    made.push(Asking {
+        bytes,
+        opened,
+        windows,
+    });
     made
 }
 
@@ -299,8 +313,13 @@ fn run_windows(arguments: &Arguments) {
             book,
         };
         let mut random = Random::new(arguments.seed, book);
-        for (bytes, opened, windows) in books_and_windows(&mut random) {
-            match &opened {
+        for asking in books_and_windows(&mut random) {
+            let Asking {
+                bytes,
+                opened,
+                windows,
+            } = &asking;
+            match opened {
                 Ok(venue) => {
                     counts.add(By::Books, "accepted");
                     counts.shape(venue);
@@ -308,7 +327,7 @@ fn run_windows(arguments: &Arguments) {
                 Err(_) => counts.add(By::Books, "refused"),
             }
             for edges in windows {
-                window(place, &bytes, &opened, edges, &mut random, &mut counts);
+                window(place, bytes, opened, *edges, &mut random, &mut counts);
             }
         }
     }
