@@ -136,33 +136,111 @@ pub fn instants(random: &mut Random, venue: &Venue, wanted: usize) -> Vec<i64> {
     found
 }
 
-/// Windows between instants that `instants` finds, reversed and empty ones too, and a few of years.
-#[cfg_attr(not(feature = "window"), allow(dead_code))]
-pub fn windows(random: &mut Random, venue: Option<&Venue>, wanted: usize) -> Vec<(i64, i64)> {
-    let mut found = match venue {
-        Some(venue) => instants(random, venue, 2000),
-        None => vec![far(random)],
+/// The longest window that is asked often: 3,700 days.
+pub const LONGEST_WINDOW: i64 = 3_700 * DAY as i64;
+/// A walk takes so many turns, one a date.
+const TURNS: i64 = 3_660;
+
+/// Where clocks go back over a midnight: from the change to that midnight's second pass, which is not included.
+/// There the date that a reading has is behind the midnight that has passed.
+pub fn second_passes(venue: &Venue) -> Vec<(i64, i64)> {
+    let Some((_, zone)) = venue.parts() else {
+        return Vec::new();
     };
-    if found.is_empty() {
-        return vec![(far(random), far(random))];
+    let mut found = Vec::new();
+    for &(at, after) in &venue.changes {
+        let before = civil::doors::datetime_at(zone, instant(at * SECOND - 1));
+        let before = before.date().day_number();
+        let midnight = (at + i64::from(after)).div_euclid(DAY_SECONDS) + 1;
+        // The last reading before the change has that midnight behind it.
+        if before >= midnight {
+            let second = midnight * DAY_SECONDS - i64::from(after);
+            found.push((at * SECOND, second * SECOND));
+        }
     }
+    found
+}
+
+/// The lengths: of every size from 1 ns, whole days among them and 1 ns beside.
+fn length(random: &mut Random, longest: i64) -> i64 {
+    let size = random.below(64 - longest.leading_zeros() as usize);
+    let any = random.from_to(1 << size, (2 << size) - 1);
+    let days = (any / DAY as i64).max(1) * DAY as i64 + random.from_to(-1, 1);
+    let few = random.from_to(1, 3);
+    (*random.pick(&[any, any, days, few])).clamp(1, longest)
+}
+
+/// Windows on a book's edges and 1 ns beside them: coverage, midnights, changes, points, events, second passes of a
+/// fold over midnight. Reversed and empty ones too. `far_too` allows a few of years, which takes the Rust long.
+pub fn windows(
+    random: &mut Random,
+    venue: &Venue,
+    wanted: usize,
+    far_too: bool,
+) -> Vec<(i64, i64)> {
+    let mut found = instants(random, venue, 2000);
+    let Some((rules, _)) = venue.parts() else {
+        return vec![(found[0], far(random)), (found[1], found[2])];
+    };
+    let (first, last) = (nanos(rules.coverage.start()), nanos(rules.coverage.end()));
+    found.extend([first - 1, first, first + 1, last - 1, last, last + 1]);
     found.sort_unstable();
+    let passes = second_passes(venue);
     (0..wanted)
         .map(|_| {
-            let first = random.below(found.len());
-            let last = (first + random.below(30)).min(found.len() - 1);
-            let (a, b) = (found[first], found[last]);
-            match random.below(1000) {
-                0..20 => (b, a),
-                20..40 => (a, a),
-                40..42 => (a, far(random)),
-                42..44 => (a, b),
-                // A window of years takes the Rust long: most have weeks at most.
-                _ => (
-                    a,
-                    b.min(a.saturating_add(random.from_to(1, 30 * DAY as i64))),
-                ),
-            }
+            let place = random.below(found.len());
+            let start = match random.below(100) {
+                0..14 if !passes.is_empty() => {
+                    let (from, to) = *random.pick(&passes);
+                    let any = random.from_to(from, to);
+                    *random.pick(&[from, from + 1, from - 1, to - 1, to, to + 1, any, any])
+                }
+                14..20 => *random.pick(&[first - 1, first, first + 1]),
+                20..24 => first - length(random, 5 * DAY as i64),
+                _ => found[place],
+            };
+            let longest = if far_too && random.percent(2) {
+                LONGEST_WINDOW
+            } else {
+                40 * DAY as i64
+            };
+            let later = |by: usize| found[(place + by).min(found.len() - 1)];
+            let end = match random.below(100) {
+                0..3 => start,
+                3..6 => return (start, found[random.below(place + 1)]),
+                6..7 => far(random),
+                7..35 => later(1 + random.below(30)),
+                35..60 => start.saturating_add(length(random, longest)),
+                60..75 => {
+                    let beyond = length(random, longest);
+                    last + *random.pick(&[-1, 0, 1, DAY as i64, beyond])
+                }
+                _ => later(random.below(found.len())),
+            };
+            (start, end.min(start.saturating_add(longest)))
+        })
+        .collect()
+}
+
+/// Windows of about 3,660 dates, where the walk's turns end; from the start of coverage, or beside a midnight.
+pub fn long_windows(random: &mut Random, venue: &Venue, wanted: usize) -> Vec<(i64, i64)> {
+    let (rules, zone) = venue.parts().expect("a book with coverage");
+    let first = nanos(rules.coverage.start());
+    (0..wanted)
+        .map(|_| {
+            let near = first + random.from_to(0, 30 * DAY as i64);
+            let day = civil::doors::datetime_at(zone, instant(near)).date();
+            let midnight = nanos(resolve::doors::to_utc(zone, day.at(0, 0, 0, 0)).0);
+            let base = *random.pick(&[first, first, first - DAY as i64, near, midnight, midnight]);
+            let start = (base + random.from_to(-1, 1)).max(INSTANTS[0]);
+            let days = match random.below(6) {
+                0 | 1 => TURNS + random.from_to(-1, 2),
+                2 => TURNS,
+                3 => LONGEST_WINDOW / DAY as i64,
+                _ => random.from_to(TURNS, LONGEST_WINDOW / DAY as i64),
+            };
+            let length = (days * DAY as i64 + random.from_to(-1, 1)).min(LONGEST_WINDOW);
+            (start, start + length)
         })
         .collect()
 }

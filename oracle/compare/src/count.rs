@@ -1,7 +1,11 @@
-//! What a run met: by number, kind, tag, phase, rule code and room, and ten situations that are easy to miss.
+//! What a run met: by number, kind, tag, phase, rule code and room, and situations that are easy to miss: ten of points
+//! here, six of windows in `walk`.
 
 use crate::answer::{self, Answer};
-use crate::given::{Venue, instant};
+use crate::ask;
+use crate::given::{Venue, instant, nanos};
+use crate::judge::{DAY, SECOND};
+use crate::walk;
 use jiff::civil::{Date, Time};
 use jiff::tz::TimeZone;
 use market_time_core::resolve::doors;
@@ -10,6 +14,9 @@ use std::collections::BTreeMap;
 
 /// The least of each that a long run must meet.
 pub const LEAST: u64 = 1000;
+
+/// The least windows that a long run must see answered.
+pub const WINDOWS: u64 = 200_000;
 
 /// Of a point query inside the range. "The date that answers" is the first of yesterday, today and
 /// tomorrow with a span that holds the instant.
@@ -130,12 +137,42 @@ pub fn situations(venue: &Venue, at: i64) -> Met {
     met
 }
 
+/// Which of `EDGES` an instant is.
+fn edges(venue: &Venue, at: i64) -> [bool; 7] {
+    let Some((rules, zone)) = venue.parts() else {
+        return [false; 7];
+    };
+    let coverage = [nanos(rules.coverage.start()), nanos(rules.coverage.end())];
+    let midnight = |at: i64| {
+        let time = civil::doors::datetime_at(zone, instant(at)).time();
+        time == Time::midnight()
+    };
+    let change = |at: i64| {
+        let second = at.div_euclid(SECOND);
+        at % SECOND == 0 && venue.changes.binary_search_by_key(&second, |c| c.0).is_ok()
+    };
+    let beside = [at - 1, at + 1];
+    [
+        coverage.contains(&at),
+        beside.iter().any(|at| coverage.contains(at)),
+        midnight(at),
+        beside.iter().any(|at| midnight(*at)),
+        change(at),
+        beside.iter().any(|at| change(*at)),
+        ask::second_passes(venue)
+            .iter()
+            .any(|(from, to)| (*from..*to).contains(&at)),
+    ]
+}
+
 /// Counts by name, in the order of the names.
 #[derive(Default)]
 pub struct Counts {
     by: BTreeMap<(u8, String), u64>,
     pub points: u64,
     pub known: u64,
+    pub windows: u64,
+    pub answered: u64,
 }
 
 /// What is counted, in the order of the report.
@@ -149,9 +186,11 @@ pub enum By {
     Code,
     Room,
     Situation,
+    Length,
+    Edge,
 }
 
-const HEADINGS: [&str; 8] = [
+const HEADINGS: [&str; 10] = [
     "books",
     "number",
     "kind",
@@ -160,34 +199,102 @@ const HEADINGS: [&str; 8] = [
     "rule code",
     "room",
     "situation",
+    "length",
+    "edge",
+];
+
+/// Whose tags are counted.
+const TAGGED: [&str; 4] = ["of a start", "of an end", "of the whole", "of an event"];
+
+/// How long a window is: the upper bounds in nanoseconds, not included.
+const LENGTHS: [(&str, i64); 7] = [
+    ("1 ns", 2),
+    ("below 1 s", SECOND),
+    ("below 1 day", DAY as i64),
+    ("to 40 days", 40 * DAY as i64 + 1),
+    ("below 3,660 days", 3_660 * DAY as i64),
+    ("3,660 to 3,700 days", ask::LONGEST_WINDOW + 1),
+    ("longer", i64::MAX),
+];
+
+/// Where a window begins or ends.
+const EDGES: [&str; 7] = [
+    "at coverage",
+    "beside coverage",
+    "at a midnight",
+    "beside a midnight",
+    "at a clock change",
+    "beside a clock change",
+    "second pass of a fold over midnight",
 ];
 
 impl Counts {
     pub fn add(&mut self, by: By, name: impl ToString) {
-        *self.by.entry((by as u8, name.to_string())).or_default() += 1;
+        self.add_many(by, name, 1);
     }
 
-    fn tag(&mut self, place: &str, tag: u8) {
-        self.add(By::Tag, format!("{tag} {place}"));
+    fn add_many(&mut self, by: By, name: impl ToString, many: u64) {
+        if many > 0 {
+            *self.by.entry((by as u8, name.to_string())).or_default() += many;
+        }
     }
 
     /// One reply: its number, and what its answer holds.
     pub fn reply(&mut self, number: u32, answer: &[u8]) {
         self.add(By::Number, format!("{number:2}"));
         let answers = answer::decode(answer).expect("records of ours");
+        // Added up first: a window's answer may have thousands of records.
+        let (mut kinds, mut phases, mut codes) = ([0; 24], [0; 8], [0; 4]);
+        let mut tags = [[0; 6]; 4];
         for answer in &answers {
-            self.add(By::Kind, answer.kind());
+            kinds[usize::from(answer.kind())] += 1;
             match answer {
                 Answer::Phase(phase) => {
-                    self.tag("of a start", phase.from.doubt.tag);
-                    self.tag("of an end", phase.to.doubt.tag);
-                    self.tag("of the whole", phase.whole.tag);
-                    self.add(By::Phase, phase.phase);
-                    self.add(By::Code, phase.code);
+                    let doubts = [phase.from.doubt, phase.to.doubt, phase.whole];
+                    for (tags, doubt) in tags.iter_mut().zip(doubts) {
+                        tags[usize::from(doubt.tag)] += 1;
+                    }
+                    phases[usize::from(phase.phase)] += 1;
+                    codes[usize::from(phase.code)] += 1;
                 }
-                Answer::Event { doubt, .. } => self.tag("of an event", doubt.tag),
+                Answer::Event { doubt, .. } => tags[3][usize::from(doubt.tag)] += 1,
                 _ => {}
             }
+        }
+        for (kind, many) in kinds.into_iter().enumerate() {
+            self.add_many(By::Kind, kind, many);
+        }
+        for (place, tags) in TAGGED.iter().zip(tags) {
+            for (tag, many) in tags.into_iter().enumerate() {
+                self.add_many(By::Tag, format!("{tag} {place}"), many);
+            }
+        }
+        for (phase, many) in phases.into_iter().enumerate() {
+            self.add_many(By::Phase, phase, many);
+        }
+        for (code, many) in codes.into_iter().enumerate() {
+            self.add_many(By::Code, code, many);
+        }
+    }
+
+    /// A window that was answered: its length, its edges and its situations.
+    pub fn window(&mut self, venue: &Venue, start: i64, end: i64, answer: &[u8]) {
+        self.answered += 1;
+        let length = LENGTHS.iter().find(|(_, bound)| end - start < *bound);
+        self.add(By::Length, length.expect("a length").0);
+        let mut at = [false; 7];
+        for edge in [start, end] {
+            for (at, here) in at.iter_mut().zip(edges(venue, edge)) {
+                *at |= here;
+            }
+        }
+        for (name, _) in EDGES.iter().zip(at).filter(|(_, at)| *at) {
+            self.add(By::Edge, name);
+        }
+        let answers = answer::decode(answer).expect("records of ours");
+        let met = walk::situations(venue, start, end, &answers);
+        for (name, _) in walk::SITUATIONS.iter().zip(met).filter(|(_, met)| *met) {
+            self.add(By::Situation, name);
         }
     }
 
@@ -251,22 +358,26 @@ impl Counts {
         }
         self.points += other.points;
         self.known += other.known;
+        self.windows += other.windows;
+        self.answered += other.answered;
     }
 
     pub fn print(&self) {
         for ((by, name), count) in &self.by {
             println!("{} {} {count}", HEADINGS[usize::from(*by)], name.trim());
         }
-        println!("point queries {}", self.points);
-        println!("known points {}", self.known);
+        if self.windows > 0 {
+            println!("windows {}", self.windows);
+            println!("windows answered {}", self.answered);
+        } else {
+            println!("point queries {}", self.points);
+            println!("known points {}", self.known);
+        }
     }
 
-    /// What a long run of points should have met and did not.
-    pub fn missing(&self) -> Vec<String> {
-        let mut wanted: Vec<(By, String)> = Vec::new();
-        wanted.extend((0..=10).chain([16]).map(|n| (By::Number, format!("{n:2}"))));
-        wanted.extend([16, 18, 19].map(|kind| (By::Kind, kind.to_string())));
-        for place in ["of a start", "of an end", "of the whole", "of an event"] {
+    /// Which of these, with what every long run should meet, were met too seldom.
+    fn seldom(&self, mut wanted: Vec<(By, String)>) -> Vec<String> {
+        for place in TAGGED {
             wanted.extend((0..6).map(|tag| (By::Tag, format!("{tag} {place}"))));
         }
         wanted.extend((0..8).map(|phase| (By::Phase, phase.to_string())));
@@ -274,8 +385,7 @@ impl Counts {
         wanted.extend(
             ["none", "one short", "exact", "one over"].map(|room| (By::Room, room.to_owned())),
         );
-        wanted.extend(SITUATIONS.map(|name| (By::Situation, name.to_owned())));
-        let mut missing: Vec<String> = wanted
+        wanted
             .into_iter()
             .filter_map(|(by, name)| {
                 let count = self.by.get(&(by as u8, name.clone())).copied().unwrap_or(0);
@@ -287,11 +397,38 @@ impl Counts {
                     )
                 })
             })
-            .collect();
+            .collect()
+    }
+
+    /// What a long run of points should have met and did not.
+    pub fn missing_of_points(&self) -> Vec<String> {
+        let mut wanted: Vec<(By, String)> = Vec::new();
+        wanted.extend((0..=10).chain([16]).map(|n| (By::Number, format!("{n:2}"))));
+        wanted.extend([16, 18, 19].map(|kind| (By::Kind, kind.to_string())));
+        wanted.extend(SITUATIONS.map(|name| (By::Situation, name.to_owned())));
+        let mut missing = self.seldom(wanted);
         if self.known * 2 < self.points {
             missing.push(format!(
                 "known points: {} of {}, less than half",
                 self.known, self.points
+            ));
+        }
+        missing
+    }
+
+    /// What a long run of windows should have met and did not.
+    pub fn missing_of_windows(&self) -> Vec<String> {
+        let mut wanted: Vec<(By, String)> = Vec::new();
+        wanted.extend((0..=12).chain([16]).map(|n| (By::Number, format!("{n:2}"))));
+        wanted.extend([16, 17, 18].map(|kind| (By::Kind, kind.to_string())));
+        wanted.extend(walk::SITUATIONS.map(|name| (By::Situation, name.to_owned())));
+        wanted.extend(LENGTHS[..6].iter().map(|l| (By::Length, l.0.to_owned())));
+        wanted.extend(EDGES.map(|name| (By::Edge, name.to_owned())));
+        let mut missing = self.seldom(wanted);
+        if self.answered < WINDOWS {
+            missing.push(format!(
+                "windows answered: {}, below {WINDOWS}",
+                self.answered
             ));
         }
         missing

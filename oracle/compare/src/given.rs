@@ -10,7 +10,7 @@ use market_time_core as given;
 use market_time_core::{
     CivilDaySchedule, CoverageRange, DatasetRevision, DatasetRevisionId, DateRange, DerivationNote,
     EventKind, EventOccurrence, EventRule, EvidenceRef, IanaZoneId, Interval, PhaseAnswer,
-    PhaseOutcome, RuleKind, Ruleset, TimelineSegment, Uncertainty, UtcInstant, VenueId,
+    PhaseOutcome, RuleKind, Ruleset, Timeline, TimelineSegment, Uncertainty, UtcInstant, VenueId,
     VenueProfile, VenueRuleset,
 };
 
@@ -19,14 +19,8 @@ pub const SETTLEMENT: u16 = 1;
 
 #[derive(Debug, Clone, Copy, PartialEq, Eq)]
 pub enum Query {
-    Point {
-        at: i64,
-    },
-    #[cfg_attr(not(feature = "window"), allow(dead_code))]
-    Window {
-        start: i64,
-        end: i64,
-    },
+    Point { at: i64 },
+    Window { start: i64, end: i64 },
 }
 
 /// A book as the original has it.
@@ -230,6 +224,15 @@ fn coverage(range: Option<&CoverageRange>) -> Coverage {
     range.map(|range| (nanos(range.start()), nanos(range.end())))
 }
 
+fn of_dataset(id: DatasetRevisionId) -> DatasetRevision {
+    DatasetRevision {
+        id,
+        supersedes: None,
+        iana_tzdb_version: None,
+        assembled_at: instant(0),
+    }
+}
+
 impl Venue {
     /// The book's values, or its number.
     pub fn open(book: &[u8]) -> Result<Self, u32> {
@@ -278,14 +281,18 @@ impl Venue {
             events,
             evidence: Vec::new(),
         };
-        let revision = DatasetRevision {
-            id: revision,
-            supersedes: None,
-            iana_tzdb_version: None,
-            assembled_at: instant(0),
-        };
-        venue.ruleset = Ruleset::door_unchecked(vec![revision], vec![(rules, zone)]);
+        venue.ruleset = Ruleset::door_unchecked(vec![of_dataset(revision)], vec![(rules, zone)]);
         venue
+    }
+
+    /// The name of the error that `from_parts` gives for these rules, if it gives one.
+    pub fn refused_by_from_parts(&self) -> Option<String> {
+        let (rules, zone) = self.parts()?;
+        TimeZone::register("z", zone);
+        let revision = DatasetRevisionId::new("r").expect("a revision");
+        let error = Ruleset::from_parts(vec![of_dataset(revision)], vec![rules.clone()]).err()?;
+        let told = format!("{error:?}");
+        told.split(' ').next().map(str::to_owned)
     }
 
     /// The original's rules and zone; none for a book of zero bytes.
@@ -324,13 +331,22 @@ impl Venue {
         out
     }
 
-    fn window(&self, start: i64, end: i64) -> Vec<Answer> {
+    fn timeline(&self, start: i64, end: i64) -> Timeline {
         let asked = Interval {
             start: instant(start),
             end: instant(end),
         };
+        given::resolve_timeline(asked, &self.id, &self.ruleset)
+    }
+
+    /// Whether the Rust's timeline has no hole, as the Rust says itself.
+    pub fn tiles(&self, start: i64, end: i64) -> bool {
+        self.timeline(start, end).tiles_interval()
+    }
+
+    fn window(&self, start: i64, end: i64) -> Vec<Answer> {
         let mut out = Vec::new();
-        for segment in given::resolve_timeline(asked, &self.id, &self.ruleset).segments {
+        for segment in self.timeline(start, end).segments {
             match segment {
                 TimelineSegment::Phase { interval, answer } => {
                     phase_and_events(interval, &answer, &mut out);

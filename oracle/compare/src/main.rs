@@ -1,6 +1,8 @@
 //! Compares the port with the original Rust, through document 01's boundary, on generated inputs.
 //!
 //!     compare points --seed S --books N [--from I] [--long]
+//!     compare windows --seed S --books N [--from I] [--long]
+//!     compare places
 //!     compare list --seed S --books N FILE
 //!     compare zones --seed S --books N
 //!
@@ -17,8 +19,10 @@ mod given;
 mod judge;
 mod list;
 mod make;
+mod places;
 mod port;
 mod random;
+mod walk;
 mod zones;
 
 use count::{By, Counts, situations};
@@ -230,15 +234,77 @@ fn run_points(arguments: &Arguments) {
     }
     counts.print();
     println!("differences 0");
-    let missing = counts.missing();
+    let missing = counts.missing_of_points();
     if arguments.long && !missing.is_empty() {
         println!("met too seldom:\n{}", missing.join("\n"));
         exit(1);
     }
 }
 
-/// Window queries: built with the feature `window`, once the library has the entry.
-#[cfg(feature = "window")]
+/// A book and the windows that it is asked.
+struct Asking {
+    bytes: Vec<u8>,
+    opened: Result<Venue, u32>,
+    windows: Vec<(i64, i64)>,
+}
+
+/// The books of one place of a run of windows: as those of points, and one that is made for what windows meet.
+fn books_and_windows(random: &mut Random) -> Vec<Asking> {
+    let mut made = Vec::new();
+    for (bytes, wanted) in books(random) {
+        let opened = Venue::open(&bytes);
+        let windows = match &opened {
+            Ok(venue) => {
+                let (wanted, small) = ((wanted / 4).min(15), bytes.len() < 400);
+                ask::windows(random, venue, wanted, small)
+            }
+            Err(_) => vec![(ask::far(random), ask::far(random))],
+        };
+        made.push(Asking {
+            bytes,
+            opened,
+            windows,
+        });
+    }
+    let years = random.below(7) == 0;
+    let records = if years {
+        make::years(random)
+    } else {
+        make::overlap(random)
+    };
+    let bytes = book::encode(&records);
+    assert_eq!(judge::judge(&bytes), 0, "made to be accepted");
+    let opened = Venue::open(&bytes);
+    let venue = opened.as_ref().expect("an accepted book");
+    let mut windows = ask::windows(random, venue, 3, false);
+    if years {
+        windows.extend(ask::long_windows(random, venue, 2));
+    }
+    made.push(Asking {
+        bytes,
+        opened,
+        windows,
+    });
+    made
+}
+
+/// A window query, compared and counted.
+fn window(
+    place: Place,
+    book: &[u8],
+    opened: &Result<Venue, u32>,
+    (start, end): (i64, i64),
+    random: &mut Random,
+    counts: &mut Counts,
+) {
+    let query = Query::Window { start, end };
+    let asked = compare(place, book, opened, &query, random, counts);
+    counts.windows += 1;
+    if let (Ok(venue), 0) = (opened, asked.number) {
+        counts.window(venue, start, end, &asked.answer);
+    }
+}
+
 fn run_windows(arguments: &Arguments) {
     let mut counts = Counts::default();
     for book in arguments.from..arguments.from + arguments.books {
@@ -247,22 +313,31 @@ fn run_windows(arguments: &Arguments) {
             book,
         };
         let mut random = Random::new(arguments.seed, book);
-        for (bytes, wanted) in books(&mut random) {
-            let opened = Venue::open(&bytes);
-            for (start, end) in ask::windows(&mut random, opened.as_ref().ok(), wanted / 2) {
-                compare(
-                    place,
-                    &bytes,
-                    &opened,
-                    &Query::Window { start, end },
-                    &mut random,
-                    &mut counts,
-                );
+        for asking in books_and_windows(&mut random) {
+            let Asking {
+                bytes,
+                opened,
+                windows,
+            } = &asking;
+            match opened {
+                Ok(venue) => {
+                    counts.add(By::Books, "accepted");
+                    counts.shape(venue);
+                }
+                Err(_) => counts.add(By::Books, "refused"),
+            }
+            for edges in windows {
+                window(place, bytes, opened, *edges, &mut random, &mut counts);
             }
         }
     }
     counts.print();
     println!("differences 0");
+    let missing = counts.missing_of_windows();
+    if arguments.long && !missing.is_empty() {
+        println!("met too seldom:\n{}", missing.join("\n"));
+        exit(1);
+    }
 }
 
 /// Writes the list that crates/replay asks again. Books with an event code that is not compared are left out.
@@ -334,14 +409,14 @@ fn run_list(arguments: &Arguments, file: &str) {
 fn main() {
     let Some(arguments) = arguments() else {
         eprintln!(
-            "usage: compare points|list|zones [--seed S] [--from I] [--books N] [--long] [FILE]"
+            "usage: compare points|windows|places|list|zones [--seed S] [--from I] [--books N] [--long] [FILE]"
         );
         exit(2);
     };
     match arguments.what.as_str() {
         "points" => run_points(&arguments),
-        #[cfg(feature = "window")]
         "windows" => run_windows(&arguments),
+        "places" => places::run(),
         "list" => run_list(&arguments, arguments.file.as_deref().unwrap_or("list")),
         "zones" => zones::run(arguments.seed, arguments.books),
         other => {

@@ -4,7 +4,7 @@ use crate::book::{Event, Published, Record, Rule};
 use crate::given::SETTLEMENT;
 use crate::judge::{DAY, DAYS, INSTANTS, OFFSETS, SECOND, SECONDS, SPACING, WIDTHS};
 use crate::random::Random;
-use std::collections::BTreeSet;
+use std::collections::{BTreeMap, BTreeSet};
 
 pub const DAY_SECONDS: i64 = 86_400;
 
@@ -320,5 +320,144 @@ pub fn book(random: &mut Random) -> Vec<Record> {
         records.push(other);
     }
     records.extend(changes);
+    records
+}
+
+fn plain_rule(evidence: u16, mask: u8, points: Vec<(u64, u8)>) -> Rule {
+    Rule {
+        first: DAYS[0],
+        last: DAYS[1],
+        code: 0,
+        mask,
+        label: 0,
+        evidence,
+        derived: 0,
+        published: Published {
+            tag: 0,
+            nanos: 0,
+            text: 0,
+        },
+        points,
+    }
+}
+
+/// A small book whose dates overlap: a gap ends at a midnight or shortly before, and a point inside it is put past that
+/// midnight. The phase goes on over the midnight, so the spans join, and the overlap has events: they are listed
+/// twice, and most are out of order.
+pub fn overlap(random: &mut Random) -> Vec<Record> {
+    let day = random.from_to(-25_000, 83_300);
+    let before = random.from_to(-57_600, 50_000) as i32;
+    let shift = match random.below(3) {
+        0 => 3600,
+        1 => 7200,
+        _ => random.from_to(600, i64::from(57_600 - before).min(DAY_SECONDS)),
+    };
+    let shift = shift.min(i64::from(57_600 - before));
+    // The stretch that is jumped over ends `rest` seconds before midnight; the point in it is `left` before midnight.
+    let rest = (*random.pick(&[0, 0, 0, 1, 60])).min(shift / 2);
+    let left = random.from_to(rest + 1, shift);
+    let overlap = (shift - left).clamp(1, DAY_SECONDS - 1) as u64;
+    let mut changes = Vec::new();
+    let mut midnight = (day + 1) * DAY_SECONDS;
+    for _ in 0..1 + random.below(3) {
+        changes.push((
+            midnight - rest - shift - i64::from(before),
+            before + shift as i32,
+        ));
+        let back = changes[changes.len() - 1].0 + SPACING + random.from_to(0, SPACING);
+        changes.push((back, before));
+        midnight += 6 * DAY_SECONDS;
+    }
+    let phase = random.below(8) as u8;
+    let evidence = number16(random);
+    let point = (DAY_SECONDS - left) as u64 * SECOND as u64;
+    let mut points = BTreeMap::from([(0, phase), (point, random.below(8) as u8)]);
+    if point > 7200 * SECOND as u64 && random.percent(40) {
+        // Another phase in the middle of the day.
+        let third = point / 3;
+        points.insert(third, random.below(8) as u8);
+        points.insert(2 * third, phase);
+    }
+    let mut rules = vec![plain_rule(evidence, 127, points.into_iter().collect())];
+    rules[0].published = published(random);
+    if random.percent(40) {
+        // Another rule of the same evidence on the next date: it joins all the same.
+        let mut other = rule(random, &[(day + 1) as i32], &[0]);
+        (other.first, other.last) = ((day + 1) as i32, (day + 1) as i32);
+        (other.code, other.mask) = (1 + random.below(3) as u8, 0);
+        other.evidence = if random.percent(80) {
+            evidence
+        } else {
+            number16(random)
+        };
+        other.points = vec![(0, phase)];
+        rules.push(other);
+    }
+    let settled = random.percent(90);
+    let events = (0..1 + random.below(3)).map(|_| {
+        let mut made = event(random, &[DAYS[0]], &[0], settled);
+        (made.first, made.last) = (DAYS[0], DAYS[1]);
+        let many = 1 + random.below(8);
+        made.times = (0..many)
+            .map(|_| random.word() % overlap * SECOND as u64 + random.word() % 2)
+            .collect();
+        Record::Event(made)
+    });
+    let events: Vec<Record> = events.collect();
+    let start = (day - random.from_to(0, 8)) * DAY_SECONDS * SECOND + random.from_to(-1, 1);
+    let end = start + random.from_to(6, 30) * DAY as i64;
+    let mut records = vec![Record::Head {
+        start,
+        end,
+        offset: before,
+    }];
+    let change = |&(at, offset): &(i64, i32)| Record::Change { at, offset };
+    records.extend(changes.iter().map(change));
+    records.extend(rules.into_iter().map(Record::Rule));
+    records.extend(events);
+    records
+}
+
+/// A small book that covers ten years and more, for walks that end by their turns.
+pub fn years(random: &mut Random) -> Vec<Record> {
+    let length = match random.below(4) {
+        0 => 3_660,
+        1 => random.from_to(3_655, 3_665),
+        2 => random.from_to(3_661, 3_699),
+        _ => random.from_to(3_700, 5_000),
+    };
+    let day = random.from_to(-25_100, 78_000);
+    let start = day * DAY as i64 + random.from_to(0, DAY as i64 - 1) * (random.below(2) as i64);
+    let first = random.from_to(-12, 12) as i32 * 3600;
+    let pool = times_of_day(random);
+    let many = random.below(4);
+    let from = day + random.from_to(0, 3_000);
+    let changes = changes(random, from, many, first, &pool);
+    let two = vec![(0, random.below(8) as u8), (DAY / 3, random.below(8) as u8)];
+    let one = vec![(0, random.below(8) as u8)];
+    let mut rules = match random.below(8) {
+        0 | 1 => vec![],
+        2 => vec![plain_rule(1, 1, two)],
+        3 => vec![plain_rule(1, 127, two)],
+        4 => vec![plain_rule(1, 31, one.clone()), plain_rule(2, 96, one)],
+        5 => vec![plain_rule(1, 31, one.clone()), plain_rule(1, 96, one)],
+        _ => vec![plain_rule(1, 127, one)],
+    };
+    for rule in &mut rules {
+        rule.published = published(random);
+    }
+    let mut records = vec![Record::Head {
+        start,
+        end: start + length * DAY as i64 + random.from_to(-1, 1),
+        offset: first,
+    }];
+    let change = |&(at, offset): &(i64, i32)| Record::Change { at, offset };
+    records.extend(changes.iter().map(change));
+    records.extend(rules.into_iter().map(Record::Rule));
+    if random.percent(25) {
+        let mut made = event(random, &[DAYS[0]], &pool, true);
+        made.times.truncate(1);
+        records.push(Record::Event(made));
+    }
     records
 }

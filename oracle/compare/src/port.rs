@@ -16,7 +16,6 @@ unsafe extern "C" {
         out: *mut u8,
         out_len: usize,
     ) -> Reply;
-    #[cfg(feature = "window")]
     fn market_time_window(
         book: *const u8,
         book_len: usize,
@@ -74,7 +73,6 @@ pub fn ask(book: &[u8], query: &Query, room: &mut Room) -> (u32, usize) {
         Query::Point { at } => unsafe {
             market_time_point(book.as_ptr(), book.len(), at, out.as_mut_ptr(), out.len())
         },
-        #[cfg(feature = "window")]
         Query::Window { start, end } => unsafe {
             market_time_window(
                 book.as_ptr(),
@@ -85,8 +83,6 @@ pub fn ask(book: &[u8], query: &Query, room: &mut Room) -> (u32, usize) {
                 out.len(),
             )
         },
-        #[cfg(not(feature = "window"))]
-        Query::Window { .. } => unreachable!("the library has no window entry yet"),
     };
     (reply.number, reply.length)
 }
