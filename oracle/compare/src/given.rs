@@ -315,6 +315,24 @@ impl Venue {
         }
     }
 
+    /// The original's own answer, as it gives it, for timing: how many segments it has.
+    pub fn timed(&self, query: &Query) -> usize {
+        match *query {
+            Query::Point { at } => usize::from(
+                !given::resolve_phase(instant(at), &self.id, &self.ruleset).is_unknown(),
+            ),
+            Query::Window { start, end } => {
+                let asked = Interval {
+                    start: instant(start),
+                    end: instant(end),
+                };
+                given::resolve_timeline(asked, &self.id, &self.ruleset)
+                    .segments
+                    .len()
+            }
+        }
+    }
+
     fn point(&self, at: i64) -> Vec<Answer> {
         let mut out = Vec::new();
         match given::resolve_phase(instant(at), &self.id, &self.ruleset) {

@@ -22,6 +22,7 @@ mod make;
 mod places;
 mod port;
 mod random;
+mod speed;
 mod walk;
 mod zones;
 
@@ -409,7 +410,7 @@ fn run_list(arguments: &Arguments, file: &str) {
 fn main() {
     let Some(arguments) = arguments() else {
         eprintln!(
-            "usage: compare points|windows|places|list|zones [--seed S] [--from I] [--books N] [--long] [FILE]"
+            "usage: compare points|speed|windows|places|list|zones [--seed S] [--from I] [--books N] [--long] [FILE]"
         );
         exit(2);
     };
@@ -418,6 +419,7 @@ fn main() {
         "windows" => run_windows(&arguments),
         "places" => places::run(),
         "list" => run_list(&arguments, arguments.file.as_deref().unwrap_or("list")),
+        "speed" => speed::run(),
         "zones" => zones::run(arguments.seed, arguments.books),
         other => {
             eprintln!("compare: {other}?");
