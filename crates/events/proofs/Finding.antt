@@ -1,5 +1,5 @@
 -- The events found and sought, as the code finds and seeks them. Assumes nothing.
-use Prim.Native.Nat.{ℕ, suc, _+_, _-_, _*_, _≤_, _<_, max}
+use Prim.Native.Nat.{ℕ, zero, suc, _+_, _-_, _*_, _≤_, _<_, max}
 use mathlib.Core.Path.{_≡_, refl, sym, ap, ap₂, _∙_}
 use mathlib.Core.Bool.{Bool, true, false, cond, _&&_}
 use mathlib.Core.List.{List, [], _∷_, _++_, map}
@@ -186,3 +186,15 @@ module _ (z : Zone) (from to : ℕ) (es : List Event) (a b : ℕ) where
       ∙ ap (λ (w : Search). sought w (onDates z from to es (suc a) (b - a))) q
       ∙ sym (date-in none a (b - a))
       ∙ ap₂ (λ (m n : ℕ). sought none (onDates z from to es m (suc (n - m)))) i j
+
+-- ---- a venue without events
+
+no-dates : (z : Zone) (from to d n : ℕ) → onDates z from to [] d n ≡ []
+unfolding onDates onDate
+no-dates z from to d zero = refl
+no-dates z from to d (suc n) = no-dates z from to (suc d) n
+
+pub none-found : (z : Zone) (book places : List ℕ) (from to : ℕ) (s : Search) → length places ≡ 0 → s ≡ sought s (found z (map (eventAt book) places) from to)
+unfolding found sought
+none-found z book [] from to s e = sym (ap (sought s) (no-dates z from to (dateAt z from) (suc (dateAt z to - dateAt z from))))
+none-found z book (p ∷ ps) from to s e = absurd (omega arith)

@@ -175,14 +175,17 @@ pub fn search_events(
         ⌜ (r ≡ sought (begin (at .0) index) (found (zoneOf first (now (ats .entry)) (now (offsets .entry))) (map (eventAt (now (book .entry))) (now (events .entry))) (from .0) (to .0)))
         × (r .count ≤ 2 ^ 25) ⌝ }
 {
-    let begins = day_at(first, ats, offsets, from);
-    let ends = day_at(first, ats, offsets, to);
     let none = Search {
         at,
         index,
         count: 0,
         best: Best::None,
     };
+    if events.len() == 0 {
+        return none;
+    }
+    let begins = day_at(first, ats, offsets, from);
+    let ends = day_at(first, ats, offsets, to);
     let mut so_far = on_date(book, first, ats, offsets, events, begins, from, to, none);
     let mut date = begins.0;
     while date < ends.0 {
