@@ -1,47 +1,18 @@
 /* Calls market_time_point on good and bad input, with guard bytes around the room, and compares what comes back. */
-#include "../../include/market_time.h"
-
-#include <stdio.h>
-#include <string.h>
-
-static uint8_t book[4096];
-static size_t used;
-static int wrong;
-
-static void put(uint64_t value, int bytes) {
-    for (int i = 0; i < bytes; i++) book[used++] = (uint8_t)(value >> (8 * i));
-}
-
-static void rule(uint8_t mask, int points, const uint64_t *minutes, const uint8_t *phases) {
-    put(30 + 9 * points, 2), put(3, 2), put(20454, 4), put(20818, 4), put(0, 1), put(mask, 1);
-    put(0, 2), put(1, 2), put(0, 2), put(0, 1), put(0, 8), put(0, 2), put(points, 1);
-    for (int i = 0; i < points; i++) put(minutes[i] * 60000000000ull, 8), put(phases[i], 1);
-}
+#include "ask.h"
 
 static void event(uint64_t minutes) {
     put(26 + 8, 2), put(4, 2), put(20454, 4), put(20818, 4), put(7, 2), put(9, 2);
     put(0, 1), put(0, 8), put(0, 2), put(1, 1), put(minutes * 60000000000ull, 8);
 }
 
-static uint64_t get(const uint8_t *at, int bytes) {
-    uint64_t value = 0;
-    for (int i = bytes; i-- > 0;) value = value << 8 | at[i];
-    return value;
-}
-
-#define GUARD 64
 static uint8_t room[GUARD + 512 + GUARD];
 
 static market_time_reply ask(size_t book_len, int64_t at, size_t out_len) {
     memset(room, 0xa5, sizeof room);
     market_time_reply r = market_time_point(book_len ? book : NULL, book_len, at, out_len ? room + GUARD : NULL, out_len);
-    for (size_t i = 0; i < sizeof room; i++)
-        if ((i < GUARD || i >= GUARD + r.length) && room[i] != 0xa5) printf("byte %zu altered\n", i), wrong = 1;
+    untouched(room, sizeof room, r.length);
     return r;
-}
-
-static void is(const char *what, uint64_t found, uint64_t expected) {
-    if (found != expected) printf("%s: %llu, expected %llu\n", what, (unsigned long long)found, (unsigned long long)expected), wrong = 1;
 }
 
 int main(void) {
