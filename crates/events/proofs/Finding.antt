@@ -194,7 +194,7 @@ unfolding onDates onDate
 no-dates z from to d zero = refl
 no-dates z from to d (suc n) = no-dates z from to (suc d) n
 
-pub none-found : (z : Zone) (book places : List ℕ) (from to : ℕ) (s : Search) → length places ≡ 0 → s ≡ sought s (found z (map (eventAt book) places) from to)
-unfolding found sought
-none-found z book [] from to s e = sym (ap (sought s) (no-dates z from to (dateAt z from) (suc (dateAt z to - dateAt z from))))
-none-found z book (p ∷ ps) from to s e = absurd (omega arith)
+pub none-found : (z : Zone) (book places : List ℕ) (from to : ℕ) → length places ≡ 0 → found z (map (eventAt book) places) from to ≡ []
+unfolding found
+none-found z book [] from to e = no-dates z from to (dateAt z from) (suc (dateAt z to - dateAt z from))
+none-found z book (p ∷ ps) from to e = absurd (omega arith)

@@ -24,6 +24,10 @@ unfolding sought
 sought-count s [] = omega arith
 sought-count s (o ∷ os) = let more = sought-count (met s o) os in omega (arith, more)
 
+-- as many were met as there are
+pub begun-count : (at index : ℕ) (os : List Occurrence) {s : Search} → s ≡ sought (begin at index) os → s .count ≡ length os
+begun-count at index os e = let c = ap (λ (x : Search). x .count) e ∙ sought-count (begin at index) os in omega arith
+
 -- ---- before and behind, by instant and number: a place a, x, and an event of instant t and number i
 
 abbrev behind : ℕ → ℕ → ℕ → ℕ → Bool

@@ -1,6 +1,7 @@
 // The events of a span, in order, one after the other.
 mod seek;
 
+pub use seek::count_events;
 pub use seek::search_events;
 use zone::Boundary;
 use zone::Instant;

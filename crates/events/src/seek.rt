@@ -175,17 +175,14 @@ pub fn search_events(
         ⌜ (r ≡ sought (begin (at .0) index) (found (zoneOf first (now (ats .entry)) (now (offsets .entry))) (map (eventAt (now (book .entry))) (now (events .entry))) (from .0) (to .0)))
         × (r .count ≤ 2 ^ 25) ⌝ }
 {
+    let begins = day_at(first, ats, offsets, from);
+    let ends = day_at(first, ats, offsets, to);
     let none = Search {
         at,
         index,
         count: 0,
         best: Best::None,
     };
-    if events.len() == 0 {
-        return none;
-    }
-    let begins = day_at(first, ats, offsets, from);
-    let ends = day_at(first, ats, offsets, to);
     let mut so_far = on_date(book, first, ats, offsets, events, begins, from, to, none);
     let mut date = begins.0;
     while date < ends.0 {
@@ -203,4 +200,26 @@ pub fn search_events(
         );
     }
     so_far
+}
+
+// How many events there are in the span from `from` to before `to`.
+pub fn count_events(
+    book: &[u8],
+    first: u32,
+    ats: &[u64],
+    offsets: &[u32],
+    events: &[u32],
+    from: Instant,
+    to: Instant,
+) -> usize
+    requires { ⌜ Valid first (now ats) (now offsets) × AllListed 4 (now book) (now events) × (length (now events) ≤ 32) ⌝ }
+    ensures { λ r.
+        ⌜ (r ≡ length (found (zoneOf first (now (ats .entry)) (now (offsets .entry))) (map (eventAt (now (book .entry))) (now (events .entry))) (from .0) (to .0)))
+        × (r ≤ 2 ^ 25) ⌝ }
+{
+    if events.len() == 0 {
+        return 0;
+    }
+    let s = search_events(book, first, ats, offsets, events, from, to, Instant(0), 0);
+    s.count
 }

@@ -27,7 +27,7 @@ use book::MOST_TRANSITIONS;
 use day::Segment;
 use day::Spanned;
 use day::point;
-use events::search_events;
+use events::count_events;
 use lend::Reply;
 use lend::answered;
 use lend::refused;
@@ -40,6 +40,7 @@ use venue::Header;
 use venue::Opened;
 use venue::open;
 use zone::Instant;
+use zone::widest;
 
 const NO_ROOM: u32 = 16;
 
@@ -72,13 +73,15 @@ fn tell_known(
     let end = g.end;
     let from = start.at;
     let to = end.at;
-    let s = search_events(book, first, ats, offsets, events, from, to, Instant(0), 0);
-    let count = s.count;
+    let before = start.uncertainty;
+    let behind = end.uncertainty;
+    let count = count_events(book, first, ats, offsets, events, from, to);
     let length = PHASE_BYTES + EVENT_BYTES * count;
     if out.len() < length {
         return refused(NO_ROOM);
     }
-    let at = put_phase(out, 0, phase_of(book, g, from, to, count as u32));
+    let whole = widest(before, behind);
+    let at = put_phase(out, 0, phase_of(book, g, whole, from, to, count as u32));
     let n = put_events(book, first, ats, offsets, events, from, to, out, at);
     answered(n)
 }

@@ -15,7 +15,7 @@ use Rattle.events.specs.declared.Best.{Best}
 use Rattle.events.specs.declared.Best.the-variants.{None, Some}
 use Rattle.events.specs.declared.Search.{Search}
 use Rattle.events.proofs.Order.{length-sorted}
-use Rattle.events.proofs.Turns.{sought-count, in-turn}
+use Rattle.events.proofs.Turns.{begun-count, in-turn}
 use Rattle.answer.specs.Forms.{encode, encodeAll, allFields}
 use Rattle.tell.specs.Shown.{eventForm}
 
@@ -51,16 +51,17 @@ unfolding sought
 below-sought s [] h = h
 below-sought s (o ∷ os) h = below-sought (met s o) os (below-met (fromHere (s .at .0) (s .index) o (s .count) && better (s .best) o) (s .best) o (s .count) h)
 
--- as many were met as there are
-pub begun-count : (at index : ℕ) (os : List Occurrence) {s : Search} → s ≡ sought (begin at index) os → s .count ≡ length os
-begun-count at index os e = let c = ap (λ (x : Search). x .count) e ∙ sought-count (begin at index) os in omega arith
-
 pub below-begun : (at index : ℕ) (os : List Occurrence) → Below (sought (begin at index) os .best) (length os)
 below-begun at index os = go (sought (begin at index) os .best) (below-sought (begin at index) os tt)
   where
     go : (b : Best) → Below b (sought (begin at index) os .count) → Below b (length os)
     go None h = tt
     go (Some o i) h = omega (arith, begun-count at index os refl)
+
+-- no events are no bytes
+pub put-none : {os : List Occurrence} (room : List ℕ) (at : ℕ) → os ≡ [] → Put room at (encodeAll (map eventForm (byInstant os))) (35 * length os) room at
+unfolding encodeAll byInstant
+put-none room at e = rw e (record { same = sym (wrote-nothing room at); behind = omega arith; many = refl; kept = refl })
 
 -- ---- what is left
 

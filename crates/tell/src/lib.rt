@@ -8,7 +8,6 @@ ghost use Rattle.zone.specs.Zone.{zoneOf};
 ghost use Rattle.zone.specs.Answers.{Valid};
 ghost use Rattle.records.specs.Records.{eventAt};
 ghost use Rattle.venue.specs.Reading.{Listed, AllListed};
-ghost use Rattle.day.specs.Days.{whole};
 ghost use Rattle.day.specs.Meaning.{heldBy};
 ghost use Rattle.events.specs.Happenings.{found, eventsIn};
 ghost use Rattle.answer.specs.Forms.{encodeAll};
@@ -23,18 +22,23 @@ use venue::rule_derived;
 use venue::rule_evidence;
 use venue::rule_label;
 use zone::Instant;
-use zone::widest;
+use zone::Uncertainty;
 
-// A segment's record, shown from `from` to before `to`, with so many events behind it.
-pub fn phase_of(book: &[u8], g: Segment, from: Instant, to: Instant, events: u32) -> Phase
+// A segment's record, shown from `from` to before `to`, with its whole uncertainty and so many events behind it.
+pub fn phase_of(
+    book: &[u8],
+    g: Segment,
+    whole: Uncertainty,
+    from: Instant,
+    to: Instant,
+    events: u32,
+) -> Phase
     requires { ⌜ Listed 3 (now book) (g .rule) ⌝ }
-    ensures { λ r. ⌜ r ≡ headOf (from .0) (to .0) (heldBy (now (book .entry)) g) (whole (heldBy (now (book .entry)) g)) events ⌝ }
+    ensures { λ r. ⌜ r ≡ headOf (from .0) (to .0) (heldBy (now (book .entry)) g) whole events ⌝ }
 {
     let rule = g.rule as usize;
     let start = g.start;
     let end = g.end;
-    let before = start.uncertainty;
-    let behind = end.uncertainty;
     Phase {
         start: from,
         end: to,
@@ -45,7 +49,7 @@ pub fn phase_of(book: &[u8], g: Segment, from: Instant, to: Instant, events: u32
         derived: rule_derived(book, rule),
         from: start,
         to: end,
-        whole: widest(before, behind),
+        whole,
         events,
     }
 }
@@ -69,6 +73,9 @@ pub fn put_events(
         (35 * length (found (zoneOf first (now (ats .entry)) (now (offsets .entry))) (map (eventAt (now (book .entry))) (now (events .entry))) (from .0) (to .0)))
         (now (out .exit)) r ⌝ }
 {
+    if events.len() == 0 {
+        return at;
+    }
     let s = search_events(book, first, ats, offsets, events, from, to, Instant(0), 0);
     let count = s.count;
     let mut best = s.best;

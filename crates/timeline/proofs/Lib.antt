@@ -1,6 +1,6 @@
-pub mod Holes
-pub mod Passes
-pub mod Steps
 pub mod Parts
 pub mod Closing
 pub mod Shape
+pub mod Bounds
+pub mod Row
+pub mod Seen

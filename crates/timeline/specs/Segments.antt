@@ -1,31 +1,14 @@
 -- The timeline of a window: document 01, phase rules 4 and 5, over what a venue's spans show. Assumes nothing.
 use Prim.Native.Nat.{ℕ}
-use mathlib.Core.List.{List, _++_}
+use mathlib.Core.List.{List}
 use mathlib.Core.Option.{Option, none, some}
 use Rattle.zone.specs.Zone.{Zone}
-use Rattle.zone.specs.Answers.{widestOf}
 use Rattle.records.specs.Records.{Rule, Event}
-use Rattle.spans.specs.Spans.{Mark, phase, unknown, Span, Body}
+use Rattle.spans.specs.Spans.{Mark, unknown, Span, Body}
 use Rattle.spans.specs.Timeline.{Venue, Part, timeline}
 use Rattle.day.specs.Days.{Values, venueBy}
 use Rattle.tell.specs.Shown.{Shown, shown}
-
--- ---- joining: touching phases, where phase and evidence agree
-
-abbrev pub phaseMark : Shown → Mark
-phaseMark x = phase (x .held .phase) (x .held .rule .evidence)
-
--- left code, label, derived and start boundary kept, right end boundary, events appended unsorted, wider whole uncertainty
-abbrev pub joinedShown : Shown → Shown → Shown
-joinedShown a b =
-    record {
-      held = record { start = a .held .start; end = b .held .end; phase = a .held .phase; rule = a .held .rule };
-      whole = widestOf (a .whole) (b .whole);
-      events = a .events ++ b .events;
-    }
-
-abbrev pub phases : Body Shown
-phases = record { mark = phaseMark; merge = joinedShown }
+use Rattle.passes.specs.Joining.{phaseMark, joinedShown}
 
 -- ---- a segment shows a phase, or that nothing is known
 

@@ -1,7 +1,9 @@
 -- An array filled with a date's boundaries, one after the other. Assumes nothing.
 use mathlib.Core.Path.{_≡_, refl, sym, ap, ap₂, _∙_, subst}
+use mathlib.Core.Bool.{Bool, true, false, _&&_}
 use mathlib.Core.List.{List, _++_}
 use Prim.Native.Nat.{ℕ, suc, _+_, _≤_, _<_, max}
+use native.Mathlib.Decide.{decLt}
 use native.Mathlib.Nat.{zero-add}
 use native.Mathlib.Numerals.{add-one}
 use native.Mathlib.Omega.{arith}
@@ -10,9 +12,14 @@ use lib.Seq.{paste, paste-zero, paste-suc, take-length}
 use Rattle.wire.specs.Fields.{wrote}
 use Rattle.zone.specs.Zone.{Zone, resolve}
 use Rattle.zone.specs.Units.{nearestReading, readingAt}
-use Rattle.zone.specs.Answers.{taken}
+use Rattle.zone.specs.Answers.{taken, uncertain}
+use Rattle.zone.specs.declared.Resolution.{Resolution}
+use Rattle.zone.specs.declared.Resolution.the-variants.{Clear, Fold, Gap}
+use Rattle.zone.specs.declared.Uncertainty.{Uncertainty}
+use Rattle.zone.specs.declared.Uncertainty.the-variants.{Exact}
 use Rattle.records.specs.Records.{Rule}
-use Rattle.walk.specs.Walking.{edgeInstants}
+use Rattle.walk.specs.Walking as Walking
+use Rattle.walk.specs.Walking.{edgeInstants, isExact, Calm}
 use Rattle.walk.proofs.Edges.{instantAt, before, pointAt, edges-length, instant-next, instant-last}
 
 module _ (z : Zone) (r : Rule) (d : ℕ) where
@@ -58,3 +65,40 @@ module _ (z : Zone) (r : Rule) (d : ℕ) where
         let l : suc i ≡ length (edgeInstants z r d) = ap suc o ∙ sym (edges-length z r d some-in) in
         ap (λ (j : ℕ). set a j x) u ∙ stores g ∙ ap (paste old 0 (edgeInstants z r d)) l
         ∙ ap (λ (es : List ℕ). es ++ drop (0 + length (edgeInstants z r d)) old) (take-length (edgeInstants z r d))
+
+-- ---- none in doubt
+
+-- an exact time stays exact where it has one instant, and then every time stays as published
+pub exact-clear : (r : Resolution) → isExact (uncertain r Exact) ≡ true → (u : Uncertainty) → uncertain r u ≡ u
+exact-clear (Clear t) e u = refl
+exact-clear (Fold d) e u = absurd (let n : _≡_ {A = ℕ} 0 1 = cc in omega arith)
+exact-clear (Gap d) e u = absurd (let n : _≡_ {A = ℕ} 0 1 = cc in omega arith)
+
+and-true : (a b : Bool) → (a && b) ≡ true → (a ≡ true) × (b ≡ true)
+and-true true b e = (refl, e)
+and-true false b e = absurd (let n : _≡_ {A = ℕ} 0 1 = cc in omega arith)
+
+module _ (z : Zone) (r : Rule) (d : ℕ) where
+  -- if `calm`, the first i points
+  abbrev pub ClearTo : Bool → ℕ → Type 0
+  ClearTo calm i = calm ≡ true → (j : ℕ) → j < i → Walking.Clear z d (pointAt z r d j .time)
+
+  module _ (calm more : Bool) (i : ℕ) (c : ClearTo calm i) where
+    pub clear-next : (u : Uncertainty) → u ≡ uncertain (resolve z (nearestReading (readingAt d (pointAt z r d i .time)))) Exact → more ≡ isExact u → ClearTo (calm && more) (i + 1)
+    clear-next u e f q j h =
+        let b = and-true calm more q in
+        let x : isExact (uncertain (resolve z (nearestReading (readingAt d (pointAt z r d i .time)))) Exact) ≡ true = sym (ap isExact e) ∙ sym f ∙ b .1 in
+        go (b .0) (exact-clear (resolve z (nearestReading (readingAt d (pointAt z r d i .time)))) x) (decLt j i)
+      where
+        go : calm ≡ true → Walking.Clear z d (pointAt z r d i .time) → Dec (j < i) → Walking.Clear z d (pointAt z r d j .time)
+        go a k (yes l) = c a j l
+        go a k (no l) = let o : j ≡ i = omega arith in rw o k
+
+    pub clear-all : length (r .points) ≤ i → (u : Uncertainty) → u ≡ uncertain (resolve z (nearestReading (readingAt (suc d) 0))) Exact → more ≡ isExact u → (calm && more) ≡ true → Calm z r d
+    clear-all l u e f q =
+        let b = and-true calm more q in
+        let x : isExact (uncertain (resolve z (nearestReading (readingAt (suc d) 0))) Exact) ≡ true = sym (ap isExact e) ∙ sym f ∙ b .1 in
+        record {
+          points = λ j h. c (b .0) j (omega arith);
+          midnight = exact-clear (resolve z (nearestReading (readingAt (suc d) 0))) x;
+        }

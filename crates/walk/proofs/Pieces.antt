@@ -3,7 +3,7 @@ use mathlib.Core.Path.{_≡_, refl, sym, ap, ap₂, _∙_}
 use mathlib.Core.Bool.{Bool, true, false, cond}
 use mathlib.Core.List.{List}
 use Prim.Native.Nat.{ℕ, suc, _+_, _≤_, _<_}
-use borrow.Author.Tests.{lt-ltb, le-ltb}
+use borrow.Author.Tests.{lt-ltb, le-ltb, ltb-true}
 use lib.Dec.{ltb}
 use lib.ListN.{length}
 use Rattle.zone.specs.Zone.{Zone, resolve}
@@ -14,7 +14,7 @@ use Rattle.zone.specs.declared.Uncertainty.{Uncertainty}
 use Rattle.venue.specs.Reading.{published}
 use Rattle.spans.specs.Timeline.{Edge}
 use Rattle.day.specs.Days.{Held}
-use Rattle.walk.specs.Walking.{ruleOf, pointOf, startEdge, endEdge, heldIn}
+use Rattle.walk.specs.Walking.{ruleOf, pointOf, startEdge, endEdge, heldIn, Calm, calmIn}
 use Rattle.walk.specs.declared.Piece.{Piece}
 
 module _ (s : List ℕ) (z : Zone) (q : Piece) where
@@ -64,3 +64,13 @@ module _ (s : List ℕ) (z : Zone) (q : Piece) where
       held-by : {a a′ b b′ : Boundary} {p p′ : ℕ} → a ≡ a′ → b ≡ b′ → p ≡ p′
           → _≡_ {A = Held} (record { start = a; end = b; phase = p; rule = ruleOf s q }) (record { start = a′; end = b′; phase = p′; rule = ruleOf s q })
       held-by i j k = cc
+
+  -- between boundaries that are not in doubt
+  pub calm-span : q .point < many → Calm z (ruleOf s q) (q .date .0) → heldIn s z q ≡ calmIn s q
+  calm-span h c =
+      sym (whole-span says says (pointOf s q (q .point) .phase) (sym (c .points (q .point) h says)) (sym (ends (ltb (q .point + 1) many) refl)) refl)
+    where
+      ends : (b : Bool) → ltb (q .point + 1) many ≡ b
+          → doubt (cond b (record { date = q .date .0; time = pointOf s q (q .point + 1) .time; at = q .end .0 }) (record { date = suc (q .date .0); time = 0; at = q .end .0 })) ≡ says
+      ends true e = c .points (q .point + 1) (ltb-true (q .point + 1) many e) says
+      ends false e = c .midnight says

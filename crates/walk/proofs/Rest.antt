@@ -27,11 +27,12 @@ use Rattle.day.specs.Meaning.{ruled}
 use Rattle.day.specs.declared.Governed.{Governed}
 use Rattle.day.specs.declared.Governed.the-variants.{Nothing, By}
 use Rattle.day.proofs.Points.{points-same}
-use Rattle.walk.specs.Walking.{ruleEdges, edgeInstants, onDate, onward, restWith, rest, Kept, Stands, heldIn, shownPart, endEdge, Showing, Begun, Comes}
+use Rattle.walk.specs.Walking.{ruleEdges, edgeInstants, onDate, onward, restWith, rest, Calm, Kept, Stands, heldIn, shownPart, endEdge, Showing, Begun, Comes}
 use Rattle.walk.specs.declared.Walk.{Walk}
 use Rattle.walk.specs.declared.Piece.{Piece}
 use Rattle.walk.proofs.Edges.{nowhere, left, edgeAt, instantAt, pointAt, edges-length, edge-is, edge-end, left-all, left-one, left-within, left-none}
 use Rattle.walk.proofs.Near.{short}
+use Rattle.walk.proofs.Pieces.{calm-span}
 
 -- ---- the spans of a date, clipped
 
@@ -121,11 +122,11 @@ array-at : (a es : List ℕ) → take (length es) a ≡ es → (j : ℕ) → j <
 array-at a es e j h = sym (getD-take (length es) a j 0 h) ∙ ap (λ (l : List ℕ). getD l j 0) e
 
 -- a span that shows, of the rest
-rest-first : {A : Type 0} (v : Venue A) (hi : ℕ) (w : Walk) (x : Span A) (xs : List (Span A)) (g : Governed) (k : ℕ) → w .began .0 < x .to
+rest-first : {A : Type 0} (v : Venue A) (hi : ℕ) (w : Walk) (x : Span A) (xs : List (Span A)) (g : Governed) (k : ℕ) (c : Bool) → w .began .0 < x .to
     → restWith v hi w (x ∷ xs)
-    ≡ x ∷ restWith v hi (record { turns = w .turns; began = w .began; cursor = record { 0 = x .to }; date = w .date; governed = g; next = k }) xs
+    ≡ x ∷ restWith v hi (record { turns = w .turns; began = w .began; cursor = record { 0 = x .to }; date = w .date; governed = g; next = k; calm = c }) xs
 unfolding reach
-rest-first {A} v hi w x xs g k h =
+rest-first {A} v hi w x xs g k c h =
     let q = lt-ltb (w .began .0) (x .to) h in
     ap (λ (b : Bool). x ∷ (xs ++ (let next = reach (cond b (x .to) (min hi (midnight v (suc (w .date .0))))) xs in cond (ltb (w .began .0) next) (walk v hi (w .turns) next) []))) (sym q)
 
@@ -143,8 +144,8 @@ module _ (first : ℕ) (ats os : List ℕ) (good : Valid first ats os) (s : List
   abbrev d : ℕ
   d = w .date .0
 
-  kept-by : Kept s z d (w .next) (By p) a
-  kept-by = subst (λ (g : Governed). Kept s z d (w .next) g a) by (stands .kept)
+  kept-by : Kept s z d (w .next) (w .calm) (By p) a
+  kept-by = subst (λ (g : Governed). Kept s z d (w .next) (w .calm) g a) by (stands .kept)
 
   stored : (j : ℕ) → j ≤ n → getD a j 0 ≡ instantAt z r d j
   stored j h =
@@ -184,17 +185,9 @@ module _ (first : ℕ) (ats os : List ℕ) (good : Valid first ats os) (s : List
             date = w .date;
             rule = p;
             point = k;
-          }
-
-      abbrev behind : Walk
-      behind =
-          record {
+            calm = w .calm;
             turns = w .turns;
             began = w .began;
-            cursor = record { 0 = to };
-            date = w .date;
-            governed = By p;
-            next = k + 1;
           }
 
       start-is : start ≡ instantAt z r d k
@@ -219,7 +212,7 @@ module _ (first : ℕ) (ats os : List ℕ) (good : Valid first ats os) (s : List
           ∙ spans-by from-is to-is (held-in s z piece (omega arith) start-is end-is)
           (ap₂ (λ (m o : ℕ). clip m hi (left z r d o)) to-is (sym (add-one k)))
 
-      pub comes : Comes s z v hi w piece behind a
+      pub comes : Comes s z v hi w piece a
       unfolding rest
       comes =
           let g = stands .forward in
@@ -227,19 +220,19 @@ module _ (first : ℕ) (ats os : List ℕ) (good : Valid first ats os) (s : List
           record {
             first =
                 ap (restWith v hi w) here-is
-                ∙ rest-first v hi w (shownPart s z piece) (clip to hi (left z r d (k + 1))) (By p) (k + 1) (omega arith);
-            fits = record { listed = kept-by .0; point = omega arith; shows = apart; short = omega (arith, start-is, end-is, short first ats os good r d (omega arith) k (omega arith)) };
-            stands = record { kept = (kept-by .0, omega arith, kept-by .2); forward = omega arith };
+                ∙ rest-first v hi w (shownPart s z piece) (clip to hi (left z r d (k + 1))) (By p) (k + 1) (w .calm) (omega arith);
+            fits = record { listed = kept-by .0; point = omega arith; shows = apart; short = omega (arith, start-is, end-is, short first ats os good r d (omega arith) k (omega arith)); calm = λ i. calm-span s z piece (omega arith) (kept-by .3 i) };
+            stands = record { kept = (kept-by .0, omega arith, kept-by .2, kept-by .3); forward = omega arith };
           }
 
 -- ---- a turn that shows no more
 
 module _ (s : List ℕ) (z : Zone) (v : Venue Held) (hi : ℕ) (w : Walk) (hidden : clip (w .cursor .0) hi (onDate s z (w .date .0) (w .next) (w .governed)) ≡ []) where
-  leads-on : rest s z v hi w ≡ cond (ltb (w .began .0) (onward v hi w)) (walk v hi (w .turns) (onward v hi w)) []
+  leads-on : rest s z v hi w ≡ cond (ltb (w .began .0) (onward v hi (w .began .0) (w .cursor .0) (w .date .0))) (walk v hi (w .turns) (onward v hi (w .began .0) (w .cursor .0) (w .date .0))) []
   unfolding rest reach
   leads-on = ap (restWith v hi w) hidden
 
-  module _ (next : ℕ) (e : next ≡ onward v hi w) where
+  module _ (next : ℕ) (e : next ≡ onward v hi (w .began .0) (w .cursor .0) (w .date .0)) where
     leads : rest s z v hi w ≡ cond (ltb (w .began .0) next) (walk v hi (w .turns) next) []
     leads = leads-on ∙ ap (λ (i : ℕ). cond (ltb (w .began .0) i) (walk v hi (w .turns) i) []) (sym e)
 
@@ -279,16 +272,18 @@ module _ (s : List ℕ) (z : Zone) (v : Venue Held) (hi : ℕ) (w : Walk) (hidde
 -- ---- a turn begins
 
 -- a date without a rule, and one whose boundaries are written
-pub kept-nothing : (s : List ℕ) (z : Zone) (d : ℕ) (a : List ℕ) {o : Governed} → o ≡ Nothing → Kept s z d 0 o a
-kept-nothing s z d a e = subst (λ (g : Governed). Kept s z d 0 g a) (sym e) tt
+pub kept-nothing : (s : List ℕ) (z : Zone) (d : ℕ) (calm : Bool) (a : List ℕ) {o : Governed} → o ≡ Nothing → Kept s z d 0 calm o a
+kept-nothing s z d calm a e = subst (λ (g : Governed). Kept s z d 0 calm g a) (sym e) tt
 
-pub kept-rule : (s : List ℕ) (z : Zone) (d : ℕ) (a old : List ℕ) (p : ℕ) → Listed 3 s p → a ≡ wrote old 0 (edgeInstants z (ruleAt s p) d) → Kept s z d 0 (By p) a
+pub kept-rule : (s : List ℕ) (z : Zone) (d : ℕ) (a old : List ℕ) (p : ℕ) {o : Governed} → o ≡ By p → Listed 3 s p → a ≡ wrote old 0 (edgeInstants z (ruleAt s p) d) → {calm : Bool}
+    → (calm ≡ true → Calm z (ruleAt s p) d) → Kept s z d 0 calm o a
 unfolding wrote
-kept-rule s z d a old p h w =
-    (h, omega arith, ap (take (length (edgeInstants z (ruleAt s p) d))) w ∙ take-append-seam (edgeInstants z (ruleAt s p) d) _)
+kept-rule s z d a old p e h w {calm} f =
+    subst (λ (g : Governed). Kept s z d 0 calm g a) (sym e)
+    (h, omega arith, ap (take (length (edgeInstants z (ruleAt s p) d))) w ∙ take-append-seam (edgeInstants z (ruleAt s p) d) _, f)
 
-module _ (s : List ℕ) (z : Zone) (g : ℕ → Option Rule) (t : ℕ) (c : Instant) (d : Day) (o : Governed) (a : List ℕ)
-    (date : d .0 ≡ dateAt z (c .0)) (rule : ruled s o ≡ g (d .0)) (kept : Kept s z (d .0) 0 o a) where
+module _ (s : List ℕ) (z : Zone) (g : ℕ → Option Rule) (t : ℕ) (c : Instant) (d : Day) (o : Governed) (calm : Bool) (a : List ℕ)
+    (date : d .0 ≡ dateAt z (c .0)) (rule : ruled s o ≡ g (d .0)) (kept : Kept s z (d .0) 0 calm o a) where
   all-spans : onDate s z (d .0) 0 o ≡ spans (venueBy z g) (d .0)
   unfolding spans
   all-spans = go o ∙ ap (ofRule (venueBy z g) (d .0)) rule
@@ -298,7 +293,7 @@ module _ (s : List ℕ) (z : Zone) (g : ℕ → Option Rule) (t : ℕ) (c : Inst
       go (By p) = sym (left-all z (ruleAt s p) (d .0)) ∙ points-same z (λ x. none) g (ruleAt s p) (d .0) (ruleAt s p .points)
 
   abbrev start : Walk
-  start = record { turns = t; began = c; cursor = c; date = d; governed = o; next = 0 }
+  start = record { turns = t; began = c; cursor = c; date = d; governed = o; next = 0; calm = calm }
 
   -- the rest, of a date and its spans
   abbrev by : ℕ → ℕ → List (Span Held) → List (Span Held)
@@ -325,8 +320,8 @@ pub record Turning (s : List ℕ) (z : Zone) (v : Venue Held) (hi : ℕ) (start 
   pub stands : Stands s z w a
   pub same : rest s z v hi start ≡ rest s z v hi w
 
-pub comes-from : {s : List ℕ} {z : Zone} {v : Venue Held} {hi : ℕ} {start w : Walk} {q : Piece} {w′ : Walk} {a : List ℕ} → rest s z v hi start ≡ rest s z v hi w → Comes s z v hi w q w′ a
-    → Comes s z v hi start q w′ a
+pub comes-from : {s : List ℕ} {z : Zone} {v : Venue Held} {hi : ℕ} {start w : Walk} {q : Piece} {a : List ℕ} → rest s z v hi start ≡ rest s z v hi w → Comes s z v hi w q a
+    → Comes s z v hi start q a
 comes-from e c = record { first = e ∙ c .first; fits = c .fits; stands = c .stands }
 
 pub nothing-shows : (s : List ℕ) (z : Zone) (hi : ℕ) (w : Walk) → w .governed ≡ Nothing → clip (w .cursor .0) hi (onDate s z (w .date .0) (w .next) (w .governed)) ≡ []
@@ -335,7 +330,7 @@ nothing-shows s z hi w e = ap (λ (g : Governed). clip (w .cursor .0) hi (onDate
 
 module _ {s : List ℕ} {z : Zone} {w : Walk} {a : List ℕ} {p : ℕ} (h : Stands s z w a) (e : w .governed ≡ By p) where
   pub rule-listed : Listed 3 s p
-  rule-listed = subst (λ (g : Governed). Kept s z (w .date .0) (w .next) g a) e (h .kept) .0
+  rule-listed = subst (λ (g : Governed). Kept s z (w .date .0) (w .next) (w .calm) g a) e (h .kept) .0
 
   pub next-most : w .next ≤ length (ruleAt s p .points)
-  next-most = subst (λ (g : Governed). Kept s z (w .date .0) (w .next) g a) e (h .kept) .1
+  next-most = subst (λ (g : Governed). Kept s z (w .date .0) (w .next) (w .calm) g a) e (h .kept) .1

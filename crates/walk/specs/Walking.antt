@@ -1,15 +1,18 @@
 -- The walk, one span after the other: a date's boundaries, where the walk stands, and what is left of it. Assumes nothing.
 use Prim.Native.Nat.{ℕ, suc, _+_, _≤_, _<_, min, max}
 use mathlib.Core.Path.{_≡_}
-use mathlib.Core.Bool.{cond}
+use mathlib.Core.Bool.{Bool, true, false, cond}
 use mathlib.Core.List.{List, [], _∷_, _++_, map}
 use mathlib.Core.Option.{none}
 use lib.Dec.{ltb}
 use lib.ListN.{length, getD, take, drop}
-use Rattle.zone.specs.Zone.{Zone}
-use Rattle.zone.specs.Units.{dayNs, mostNs}
+use Rattle.zone.specs.Zone.{Zone, resolve}
+use Rattle.zone.specs.Units.{dayNs, mostNs, nearestReading, readingAt}
+use Rattle.zone.specs.Answers.{uncertain}
+use Rattle.zone.specs.declared.Uncertainty.{Uncertainty}
+use Rattle.zone.specs.declared.Uncertainty.the-variants.{Exact, PublishedGranularity, PublishedBound, ProcessStart, AmbiguousLocalTime, NonexistentLocalTime}
 use Rattle.records.specs.Records.{Point, Rule, ruleAt}
-use Rattle.venue.specs.Reading.{Listed}
+use Rattle.venue.specs.Reading.{Listed, published}
 use Rattle.venue.specs.Reading as Reading
 use Rattle.spans.specs.Spans.{Span, clip, reach}
 use Rattle.spans.specs.Timeline.{Edge, Venue, midnight, raised, cut, walk}
@@ -39,6 +42,23 @@ ruleEdges z r d = edges (venueBy z (λ x. none)) d (r .points)
 abbrev pub edgeInstants : Zone → Rule → ℕ → List ℕ
 edgeInstants z r d = map (λ (e : Edge). e .at) (ruleEdges z r d)
 
+-- a time of a date is not in doubt: its instant is as precise as is published
+abbrev pub Clear : Zone → ℕ → ℕ → Type 0
+Clear z d x = (u : Uncertainty) → uncertain (resolve z (nearestReading (readingAt d x))) u ≡ u
+
+abbrev pub isExact : Uncertainty → Bool
+isExact Exact = true
+isExact (PublishedGranularity n) = false
+isExact (PublishedBound n t) = false
+isExact (ProcessStart t) = false
+isExact (AmbiguousLocalTime d) = false
+isExact (NonexistentLocalTime d) = false
+
+-- none of a date's boundaries is
+pub record Calm (z : Zone) (r : Rule) (d : ℕ) : Type 0 where
+  pub points : (i : ℕ) → i < length (r .points) → Clear z d (getD (r .points) i Reading.midnight .time)
+  pub midnight : Clear z (suc d) 0
+
 -- ---- what is left
 
 -- the spans of a date from a boundary on
@@ -53,27 +73,28 @@ onDate s z d k Nothing = []
 onDate s z d k (By p) = let r = ruleAt s p in spansFrom z r (drop k (ruleEdges z r d)) (drop k (r .points))
 
 -- where a turn leads that shows no more spans: to the end of its last one, or where it had none to the next midnight
-abbrev pub onward : {A : Type 0} → Venue A → ℕ → Walk → ℕ
-onward v hi w = cond (ltb (w .began .0) (w .cursor .0)) (w .cursor .0) (min hi (midnight v (suc (w .date .0))))
+abbrev pub onward : {A : Type 0} → Venue A → ℕ → ℕ → ℕ → ℕ → ℕ
+onward v hi began cursor date = cond (ltb began cursor) cursor (min hi (midnight v (suc date)))
 
 -- of the date's spans, and of the turns after it
 abbrev pub restWith : {A : Type 0} → Venue A → ℕ → Walk → List (Span A) → List (Span A)
 restWith v hi w here =
-    here ++ (let next = reach (onward v hi w) here in cond (ltb (w .began .0) next) (walk v hi (w .turns) next) [])
+    here ++ (let next = reach (onward v hi (w .began .0) (w .cursor .0) (w .date .0)) here in cond (ltb (w .began .0) next) (walk v hi (w .turns) next) [])
 
 unfoldable pub rest : List ℕ → Zone → Venue Held → ℕ → Walk → List (Span Held)
 rest s z v hi w = restWith v hi w (clip (w .cursor .0) hi (onDate s z (w .date .0) (w .next) (w .governed)))
 
 -- ---- where the walk stands
 
--- the first boundaries of an array are those of a date
-abbrev pub Kept : List ℕ → Zone → ℕ → ℕ → Governed → List ℕ → Type 0
-Kept s z d k Nothing a = Unit {0}
-Kept s z d k (By p) a =
+-- the first boundaries of an array are those of a date, and where it is calm none is in doubt
+abbrev pub Kept : List ℕ → Zone → ℕ → ℕ → Bool → Governed → List ℕ → Type 0
+Kept s z d k calm Nothing a = Unit {0}
+Kept s z d k calm (By p) a =
     Listed 3 s p × (k ≤ length (ruleAt s p .points)) × (take (length (edgeInstants z (ruleAt s p) d)) a ≡ edgeInstants z (ruleAt s p) d)
+    × (calm ≡ true → Calm z (ruleAt s p) d)
 
 pub record Stands (s : List ℕ) (z : Zone) (w : Walk) (a : List ℕ) : Type 0 where
-  pub kept : Kept s z (w .date .0) (w .next) (w .governed) a
+  pub kept : Kept s z (w .date .0) (w .next) (w .calm) (w .governed) a
   pub forward : w .began .0 ≤ w .cursor .0
 
 -- ---- a piece: a span of a date, and what of it shows
@@ -97,6 +118,29 @@ endEdge s q =
 abbrev pub heldIn : List ℕ → Zone → Piece → Held
 heldIn s z q = venueBy z (λ x. none) .body (ruleOf s q) (startEdge s q) (pointOf s q (q .point) .phase) (endEdge s q)
 
+-- between boundaries that are not in doubt
+abbrev pub calmIn : List ℕ → Piece → Held
+calmIn s q =
+    record {
+      start = record { at = q .start; uncertainty = published (ruleOf s q .uncertainty) };
+      end = record { at = q .end; uncertainty = published (ruleOf s q .uncertainty) };
+      phase = pointOf s q (q .point) .phase;
+      rule = ruleOf s q;
+    }
+
+-- where the walk stands behind it
+abbrev pub behind : Piece → Walk
+behind q =
+    record {
+      turns = q .turns;
+      began = q .began;
+      cursor = q .to;
+      date = q .date;
+      governed = By (q .rule);
+      next = q .point + 1;
+      calm = q .calm;
+    }
+
 abbrev pub shownPart : List ℕ → Zone → Piece → Span Held
 shownPart s z q = record { from = q .from .0; to = q .to .0; body = heldIn s z q }
 
@@ -104,12 +148,13 @@ shownPart s z q = record { from = q .from .0; to = q .to .0; body = heldIn s z q
 abbrev pub spanNs : ℕ
 spanNs = dayNs + mostNs + mostNs
 
--- a rule and its point stand where a piece says, and its span is not long
-pub record Fits (s : List ℕ) (q : Piece) : Type 0 where
+-- a rule and its point stand where a piece says, its span is not long, and where it is calm it holds what the rule says
+pub record Fits (s : List ℕ) (z : Zone) (q : Piece) : Type 0 where
   pub listed : Listed 3 s (q .rule)
   pub point : q .point < length (ruleOf s q .points)
   pub shows : q .from .0 < q .to .0
   pub short : q .end .0 ≤ q .start .0 + spanNs
+  pub calm : q .calm ≡ true → heldIn s z q ≡ calmIn s q
 
 -- of the spans between n + 1 boundaries, r is the first from the k-th on that shows between the cursor and hi; n where none does
 pub record Showing (a : List ℕ) (k n cursor hi r : ℕ) : Type 0 where
@@ -127,11 +172,11 @@ pub record Begun (s : List ℕ) (z : Zone) (v : Venue Held) (turns cursor : ℕ)
 
 -- ---- a step of the walk: nothing is left, or a piece comes first and the walk stands behind it
 
-pub record Comes (s : List ℕ) (z : Zone) (v : Venue Held) (hi : ℕ) (w : Walk) (q : Piece) (w′ : Walk) (a : List ℕ) : Type 0 where
-  pub first : rest s z v hi w ≡ shownPart s z q ∷ rest s z v hi w′
-  pub fits : Fits s q
-  pub stands : Stands s z w′ a
+pub record Comes (s : List ℕ) (z : Zone) (v : Venue Held) (hi : ℕ) (w : Walk) (q : Piece) (a : List ℕ) : Type 0 where
+  pub first : rest s z v hi w ≡ shownPart s z q ∷ rest s z v hi (behind q)
+  pub fits : Fits s z q
+  pub stands : Stands s z (behind q) a
 
 abbrev pub Found : List ℕ → Zone → Venue Held → ℕ → Walk → Pulled → List ℕ → Type 0
 Found s z v hi w Done a = rest s z v hi w ≡ []
-Found s z v hi w (Next q w′) a = Comes s z v hi w q w′ a
+Found s z v hi w (Next q) a = Comes s z v hi w q a

@@ -5,6 +5,7 @@ mod turn;
 
 use calendar::Day;
 use day::Governed;
+pub use step::behind;
 pub use step::pull;
 pub use step::segment;
 pub use turn::begin;
@@ -17,7 +18,7 @@ pub const MOST_BOUNDARIES: usize = 17;
 pub const MOST_TURNS: u32 = 3_660;
 
 // Where a walk stands: how many turns are left after this one, the cursor as the turn began and as it is now, the turn's date, the rule
-// that governs it, and which of the date's spans is next.
+// that governs it, which of the date's spans is next, and whether none of the date's boundaries is in doubt.
 pub struct Walk {
     pub turns: u32,
     pub began: Instant,
@@ -25,9 +26,11 @@ pub struct Walk {
     pub date: Day,
     pub governed: Governed,
     pub next: usize,
+    pub calm: bool,
 }
 
-// What shows of a date's span, from `from` to before `to`; and the span, from `start` to before `end`, by a point of a rule.
+// What shows of a date's span, from `from` to before `to`; and the span, from `start` to before `end`, by a point of a rule. Where it is
+// calm, neither boundary is in doubt: both are as precise as the rule says. The walk goes on from `turns` and `began`.
 pub struct Piece {
     pub from: Instant,
     pub to: Instant,
@@ -36,10 +39,13 @@ pub struct Piece {
     pub date: Day,
     pub rule: u32,
     pub point: usize,
+    pub calm: bool,
+    pub turns: u32,
+    pub began: Instant,
 }
 
-// The next piece of a walk, and where the walk stands behind it.
+// The next piece of a walk.
 pub enum Pulled {
     Done,
-    Next(Piece, Walk),
+    Next(Piece),
 }

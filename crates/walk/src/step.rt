@@ -11,12 +11,13 @@ ghost use Rattle.day.specs.Governing.{governing as Governing·governing};
 ghost use Rattle.day.specs.Days.{venueBy};
 ghost use Rattle.day.specs.Meaning.{heldBy};
 ghost use Rattle.venue.specs.Reading.{AllListed};
-ghost use Rattle.walk.specs.Walking.{onward as Walking·onward, Stands, Fits, heldIn, Showing, Found};
+ghost use Rattle.walk.specs.Walking.{onward as Walking·onward, behind as Walking·behind, Stands, Fits, heldIn, Showing, Found};
 use crate::MOST_BOUNDARIES;
 use crate::Piece;
 use crate::Pulled;
 use crate::Walk;
 use crate::turn::begin;
+use calendar::Day;
 use day::Governed;
 use day::Segment;
 use day::midnight_after;
@@ -47,21 +48,27 @@ fn showing(edges: &[u64], k: usize, n: usize, cursor: Instant, hi: Instant) -> u
 }
 
 // Where a turn leads that shows no more spans.
-fn onward(first: u32, ats: &[u64], offsets: &[u32], hi: Instant, w: Walk) -> Instant
+fn onward(
+    first: u32,
+    ats: &[u64],
+    offsets: &[u32],
+    hi: Instant,
+    began: Instant,
+    cursor: Instant,
+    date: Day,
+) -> Instant
     requires { ⌜ Valid first (now ats) (now offsets) ⌝ }
-    ensures { λ r. ⌜ r .0 ≡ Walking·onward (venueBy (zoneOf first (now (ats .entry)) (now (offsets .entry))) (λ x. none)) (hi .0) w ⌝ }
+    ensures { λ r. ⌜ r .0 ≡ Walking·onward (venueBy (zoneOf first (now (ats .entry)) (now (offsets .entry))) (λ x. none)) (hi .0) (began .0) (cursor .0) (date .0) ⌝ }
 {
-    let began = w.began;
-    let cursor = w.cursor;
     if began.0 < cursor.0 {
         return cursor;
     }
-    let date = w.date;
     let midnight = midnight_after(first, ats, offsets, date, Uncertainty::Exact);
     let at = midnight.at;
     Instant(earlier(hi.0, at.0))
 }
 
+// What the walk stands on is kept field by field: a struct that is copied whole costs more than the step.
 pub fn pull(
     book: &[u8],
     first: u32,
@@ -77,56 +84,75 @@ pub fn pull(
     ensures { λ r. ⌜ Found (now (book .entry)) (zoneOf first (now (ats .entry)) (now (offsets .entry)))
         (venueBy (zoneOf first (now (ats .entry)) (now (offsets .entry))) (Governing·governing (map (ruleAt (now (book .entry))) (now (rules .entry))))) (hi .0) from r (now (edges .exit)) ⌝ }
 {
-    let mut w = from;
+    let mut turns = from.turns;
+    let mut began = from.began;
+    let mut cursor = from.cursor;
+    let mut date = from.date;
+    let mut governed = from.governed;
+    let mut least = from.next;
+    let mut calm = from.calm;
     'turns: loop {
-        let governed = w.governed;
         match governed {
             Governed::Nothing => {}
             Governed::By(rule) => {
                 let n = rule_points(book, rule as usize);
-                let cursor = w.cursor;
-                let k = showing(edges, w.next, n, cursor, hi);
+                let k = showing(edges, least, n, cursor, hi);
                 if k < n {
-                    let began = w.began;
-                    let date = w.date;
                     let start = edges[k];
                     let end = edges[k + 1];
-                    let to = Instant(earlier(hi.0, end));
-                    return Pulled::Next(
-                        Piece {
-                            from: Instant(later(cursor.0, start)),
-                            to,
-                            start: Instant(start),
-                            end: Instant(end),
-                            date,
-                            rule,
-                            point: k,
-                        },
-                        Walk {
-                            turns: w.turns,
-                            began,
-                            cursor: to,
-                            date,
-                            governed,
-                            next: k + 1,
-                        },
-                    );
+                    return Pulled::Next(Piece {
+                        from: Instant(later(cursor.0, start)),
+                        to: Instant(earlier(hi.0, end)),
+                        start: Instant(start),
+                        end: Instant(end),
+                        date,
+                        rule,
+                        point: k,
+                        calm,
+                        turns,
+                        began,
+                    });
                 }
             }
         }
-        let next = onward(first, ats, offsets, hi, w);
-        let began = w.began;
-        if (next.0 <= began.0) | (w.turns == 0) {
+        let next = onward(first, ats, offsets, hi, began, cursor, date);
+        if (next.0 <= began.0) | (turns == 0) {
             break 'turns;
         }
-        w = begin(book, first, ats, offsets, rules, edges, w.turns - 1, next);
+        let turn = begin(book, first, ats, offsets, rules, edges, turns - 1, next);
+        turns = turn.turns;
+        began = turn.began;
+        cursor = turn.cursor;
+        date = turn.date;
+        governed = turn.governed;
+        least = turn.next;
+        calm = turn.calm;
     }
     Pulled::Done
 }
 
+// Where the walk stands behind a piece.
+pub fn behind(q: Piece) -> Walk
+    requires { ⌜ q .point < 18446744073709551615 ⌝ }
+    ensures { λ r. ⌜ r ≡ Walking·behind q ⌝ }
+{
+    let began = q.began;
+    let to = q.to;
+    let date = q.date;
+    Walk {
+        turns: q.turns,
+        began,
+        cursor: to,
+        date,
+        governed: Governed::By(q.rule),
+        next: q.point + 1,
+        calm: q.calm,
+    }
+}
+
 // The whole span that a piece is part of.
 pub fn segment(book: &[u8], first: u32, ats: &[u64], offsets: &[u32], q: Piece) -> Segment
-    requires { ⌜ Valid first (now ats) (now offsets) × Fits (now book) q ⌝ }
+    requires { ⌜ Valid first (now ats) (now offsets) × Fits (now book) (zoneOf first (now ats) (now offsets)) q ⌝ }
     ensures { λ r. ⌜ (heldBy (now (book .entry)) r ≡ heldIn (now (book .entry)) (zoneOf first (now (ats .entry)) (now (offsets .entry))) q) × (r .rule ≡ q .rule) ⌝ }
 {
     let place = q.rule as usize;

@@ -1,5 +1,6 @@
 // A turn of the walk: the date that the cursor reads, the rule that governs it, and the date's boundaries.
 ghost use mathlib.Core.Path.{_≡_};
+ghost use mathlib.Core.Bool.{true};
 ghost use mathlib.Core.List.{map};
 ghost use Prim.Native.Nat.{_<_};
 ghost use lib.ListN.{length};
@@ -11,7 +12,7 @@ ghost use Rattle.records.specs.Records.{ruleAt};
 ghost use Rattle.venue.specs.Reading.{Listed, AllListed};
 ghost use Rattle.day.specs.Governing.{governing as Governing·governing};
 ghost use Rattle.day.specs.Days.{venueBy};
-ghost use Rattle.walk.specs.Walking.{edgeInstants, Begun};
+ghost use Rattle.walk.specs.Walking.{edgeInstants, isExact, Calm, Begun};
 use crate::MOST_BOUNDARIES;
 use crate::Walk;
 use calendar::Day;
@@ -26,7 +27,20 @@ use zone::Uncertainty;
 use zone::day_at;
 use zone::to_utc_at;
 
-// Stores the instants of a date's boundaries, by the rule at a place.
+fn is_exact(u: Uncertainty) -> bool
+    ensures { λ r. ⌜ r ≡ isExact u ⌝ }
+{
+    match u {
+        Uncertainty::Exact => true,
+        Uncertainty::PublishedGranularity(_) => false,
+        Uncertainty::PublishedBound(_, _) => false,
+        Uncertainty::ProcessStart(_) => false,
+        Uncertainty::AmbiguousLocalTime(_) => false,
+        Uncertainty::NonexistentLocalTime(_) => false,
+    }
+}
+
+// Stores the instants of a date's boundaries, by the rule at a place. Answers whether none of them is in doubt: an exact time of day stays exact.
 fn boundaries(
     book: &[u8],
     first: u32,
@@ -35,13 +49,15 @@ fn boundaries(
     rule: u32,
     d: Day,
     edges: &mut [u64],
-)
+) -> bool
     requires { ⌜ Valid first (now ats) (now offsets) × Listed 3 (now book) rule × (base .points < length (now edges)) ⌝ }
-    ensures { λ r. ⌜ now (edges .exit) ≡ wrote (now (edges .entry)) 0 (edgeInstants (zoneOf first (now (ats .entry)) (now (offsets .entry))) (ruleAt (now (book .entry)) rule) (d .0)) ⌝ }
+    ensures { λ r. ⌜ (now (edges .exit) ≡ wrote (now (edges .entry)) 0 (edgeInstants (zoneOf first (now (ats .entry)) (now (offsets .entry))) (ruleAt (now (book .entry)) rule) (d .0)))
+        × (r ≡ true → Calm (zoneOf first (now (ats .entry)) (now (offsets .entry))) (ruleAt (now (book .entry)) rule) (d .0)) ⌝ }
 {
     let place = rule as usize;
     let n = rule_points(book, place);
     let mut before: u64 = 0;
+    let mut calm = true;
     let mut i: usize = 0;
     while i < n {
         let own = to_utc_at(
@@ -53,13 +69,17 @@ fn boundaries(
             Uncertainty::Exact,
         );
         let at = own.at;
+        let uncertainty = own.uncertainty;
         before = later(before, at.0);
+        calm = calm & is_exact(uncertainty);
         edges[i] = before;
         i += 1;
     }
     let midnight = midnight_after(first, ats, offsets, d, Uncertainty::Exact);
     let at = midnight.at;
+    let uncertainty = midnight.uncertainty;
     edges[n] = later(before, at.0);
+    calm & is_exact(uncertainty)
 }
 
 // A turn begins at the cursor, with so many turns left after it.
@@ -79,10 +99,10 @@ pub fn begin(
 {
     let date = day_at(first, ats, offsets, cursor);
     let governed = governing(book, rules, date);
-    match governed {
-        Governed::Nothing => {}
+    let calm = match governed {
+        Governed::Nothing => true,
         Governed::By(rule) => boundaries(book, first, ats, offsets, rule, date, edges),
-    }
+    };
     Walk {
         turns,
         began: cursor,
@@ -90,5 +110,6 @@ pub fn begin(
         date,
         governed,
         next: 0,
+        calm,
     }
 }

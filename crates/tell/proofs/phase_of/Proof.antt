@@ -25,12 +25,11 @@ rule-derived-requires c κs =
 
 returns : tie.Need-returns
 returns c =
-    let at-widest = c in
-    let at-rule-derived = at-widest .before in
+    let at-rule-derived = c in
     let at-rule-evidence = at-rule-derived .before in
     let at-rule-label = at-rule-evidence .before in
     let at-rule-code = at-rule-label .before in
-    rw ((at-rule-code .rule-code .ensures) .0, (at-rule-label .rule-label .ensures), (at-rule-evidence .rule-evidence .ensures), (at-rule-derived .rule-derived .ensures), (at-widest .widest .ensures))
+    rw ((at-rule-code .rule-code .ensures) .0, (at-rule-label .rule-label .ensures), (at-rule-evidence .rule-evidence .ensures), (at-rule-derived .rule-derived .ensures))
 
 pub phase-of-spec : {M : Type 1} → statement M
 phase-of-spec =
@@ -41,5 +40,4 @@ phase-of-spec =
     rule-label-requires
     rule-evidence-requires
     rule-derived-requires
-    (λ c κs. search needs)
     returns)

@@ -1,5 +1,5 @@
 use Rattle.zone.proofs.Domain.{date-small}
-use Rattle.events.proofs.Finding.{Spanning, dates-start, date-one, dates-few, dates-end, none-found}
+use Rattle.events.proofs.Finding.{Spanning, dates-start, date-one, dates-few, dates-end}
 use Rattle.events.specs.Seeking.{begin}
 use Rattle.zone.specs.Zone.{zoneOf}
 use Rattle.records.specs.Records.{eventAt}
@@ -19,7 +19,7 @@ abbrev μ-loop : tie.MeasureT-loop
 
 on-date-requires : tie.Need-on-date-requires Inv-loop μ-loop
 on-date-requires c κs =
-    let at-start = c .before .before .before .before .before .before .before in
+    let at-start = c .before .before .before .before .before .before in
     (at-start .pre .0, at-start .pre .1, at-start .pre .2, omega arith)
 
 loop-holds : tie.Need-loop-holds Inv-loop μ-loop
@@ -28,7 +28,7 @@ loop-holds c = dates-start _ _ _ _ _ _ (omega (arith, c .on-date .ensures .1))
 on-date-requires-2 : tie.Need-on-date-requires-2 Inv-loop μ-loop
 on-date-requires-2 c κs =
     let at-loop = c .before .before in
-    let at-start = at-loop .before .before .before .before .before .before .before .before .before in (
+    let at-start = at-loop .before .before .before .before .before .before .before .before in (
       at-start .pre .0,
       at-start .pre .1,
       at-start .pre .2,
@@ -36,27 +36,22 @@ on-date-requires-2 c κs =
     )
 
 loop-less : tie.Need-loop-less Inv-loop μ-loop
-loop-less c = let t = c .before .if2 .taken in omega (arith, t)
+loop-less c = let t = c .before .if1 .taken in omega (arith, t)
 
 loop-again : tie.Need-loop-again Inv-loop μ-loop
 loop-again c =
-    let at-if2 = c .before in
-    let at-loop = at-if2 .before .before in
-    date-one _ _ _ _ _ _ (at-loop .loop .inv) (at-if2 .if2 .taken) (c .on-date2 .ensures .0) (c .on-date2 .ensures .1)
+    let at-if1 = c .before in
+    let at-loop = at-if1 .before .before in
+    date-one _ _ _ _ _ _ (at-loop .loop .inv) (at-if1 .if1 .taken) (c .on-date2 .ensures .0) (c .on-date2 .ensures .1)
 
 returns : tie.Need-returns Inv-loop μ-loop
 returns c =
-    let at-start = c .before .before .before .before .before in
-    (none-found (zoneOf (at-start .args .first) (at-start .args .ats .now) (at-start .args .offsets .now)) (at-start .args .book .now) (at-start .args .events .now) (at-start .args .from .0) (at-start .args .to .0) (begin (at-start .args .at .0) (at-start .args .index)) (omega (arith, c .if1 .taken)), omega arith)
-
-returns-2 : tie.Need-returns-2 Inv-loop μ-loop
-returns-2 c =
     let at-loop = c .before .before in
     let at-on-date = at-loop .before in
     let at-day-at2 = at-on-date .before in
     let at-day-at = at-day-at2 .before in
-    let at-start = at-day-at .before .before .before .before .before .before in (
-      dates-end _ _ _ _ _ _ (begin (at-start .args .at .0) (at-start .args .index)) (at-on-date .on-date .ensures .0) (at-loop .loop .inv) (c .if2 .left) (at-day-at .day-at .ensures) (at-day-at2 .day-at2 .ensures),
+    let at-start = at-day-at .before .before .before .before .before in (
+      dates-end _ _ _ _ _ _ (begin (at-start .args .at .0) (at-start .args .index)) (at-on-date .on-date .ensures .0) (at-loop .loop .inv) (c .if1 .left) (at-day-at .day-at .ensures) (at-day-at2 .day-at2 .ensures),
       omega (arith, dates-few _ _ _ _ _ _ (at-loop .loop .inv), at-day-at2 .day-at2 .ensures, date-small _ _ _ (at-start .args .to .0) (at-start .pre .0)),
     )
 
@@ -66,7 +61,6 @@ search-events-spec =
     (tie.spec
     Inv-loop
     μ-loop
-    returns
     (λ c κs. search needs)
     (λ c κs. search needs)
     on-date-requires
@@ -75,4 +69,4 @@ search-events-spec =
     on-date-requires-2
     loop-less
     loop-again
-    returns-2)
+    returns)

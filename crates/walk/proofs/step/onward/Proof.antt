@@ -13,14 +13,14 @@ returns c =
 
 midnight-after-requires : tie.Need-midnight-after-requires
 midnight-after-requires c κs =
-    let at-start = c .before .before .before .before .before .before .before .before in
+    let at-start = c .before .before .before .before .before in
     (at-start .pre)
 
 returns-2 : tie.Need-returns-2
 returns-2 c =
     let at-earlier = c in
     let at-midnight-after = at-earlier .before .before in
-    let at-if1 = at-midnight-after .before .before in
+    let at-if1 = at-midnight-after .before in
     rw (le-ltb _ _ (at-if1 .if1 .left)) ((at-earlier .earlier .ensures) ∙ ap (min _) (ap (λ (b : Boundary). b .at .0) (at-midnight-after .midnight-after .ensures)))
 
 pub onward-spec : {M : Type 1} → statement M

@@ -1,12 +1,13 @@
-use mathlib.Core.Path.{sym, ap, _∙_}
-use Rattle.day.specs.Meaning.{ruled}
-use native.Mathlib.Omega.{arith}
-use mathlib.Core.List.{map}
-use Rattle.zone.specs.Zone.{zoneOf}
-use Rattle.records.specs.Records.{ruleAt}
-use Rattle.day.specs.Governing.{governing}
-use Rattle.day.proofs.Points.{stands-at}
 use Rattle.walk.proofs.Rest.{kept-nothing, kept-rule, begun}
+use Rattle.day.proofs.Points.{stands-at}
+use Rattle.day.specs.Governing.{governing}
+use Rattle.records.specs.Records.{ruleAt}
+use Rattle.zone.specs.Zone.{zoneOf}
+use mathlib.Core.List.{map}
+use native.Mathlib.Omega.{arith}
+use Rattle.day.specs.Meaning.{ruled}
+use mathlib.Core.Bool.{true}
+use mathlib.Core.Path.{refl, sym, ap, _∙_}
 use borrow.Author.Needs.{needs}
 use Rattle.walk.proofs.turn.begin.Statement.{statement}
 use Rattle.walk.proofs.turn.begin.Tie as tie
@@ -20,6 +21,12 @@ governing-requires : tie.Need-governing-requires
 governing-requires c κs =
     let at-start = c .before .before .before .before .before in
     (at-start .pre) .1
+
+enum-told : tie.Need-enum-told
+enum-told c = search needs
+
+enum-known-governed : tie.Need-enum-known-governed
+enum-known-governed c = search needs
 
 boundaries-requires : tie.Need-boundaries-requires
 boundaries-requires c κs =
@@ -35,7 +42,7 @@ returns c =
     let at-governing = at-enum-told .before .before in
     let at-day-at = at-governing .before in
     let at-start = at-day-at .before .before .before .before .before in
-    begun ((at-start .args .book) .now) (zoneOf (at-start .args .first) ((at-start .args .ats) .now) ((at-start .args .offsets) .now)) (governing (map (ruleAt ((at-start .args .book) .now)) ((at-start .args .rules) .now))) (at-start .args .turns) (at-start .args .cursor) _ _ _ (at-day-at .day-at .ensures) ((at-governing .governing .ensures) .0) (kept-nothing ((at-start .args .book) .now) (zoneOf (at-start .args .first) ((at-start .args .ats) .now) ((at-start .args .offsets) .now)) _ _ ((at-enum-told .enum-told .given) .1))
+    begun ((at-start .args .book) .now) (zoneOf (at-start .args .first) ((at-start .args .ats) .now) ((at-start .args .offsets) .now)) (governing (map (ruleAt ((at-start .args .book) .now)) ((at-start .args .rules) .now))) (at-start .args .turns) (at-start .args .cursor) _ _ true _ (at-day-at .day-at .ensures) ((at-governing .governing .ensures) .0) (kept-nothing ((at-start .args .book) .now) (zoneOf (at-start .args .first) ((at-start .args .ats) .now) ((at-start .args .offsets) .now)) _ true _ ((at-enum-told .enum-told .given) .1))
 
 returns-2 : tie.Need-returns-2
 returns-2 c =
@@ -44,8 +51,7 @@ returns-2 c =
     let at-governing = at-governed .before .before in
     let at-day-at = at-governing .before in
     let at-start = at-day-at .before .before .before .before .before in
-    begun ((at-start .args .book) .now) (zoneOf (at-start .args .first) ((at-start .args .ats) .now) ((at-start .args .offsets) .now)) (governing (map (ruleAt ((at-start .args .book) .now)) ((at-start .args .rules) .now))) (at-start .args .turns) (at-start .args .cursor) (at-day-at .day-at .result) _ _ (at-day-at .day-at .ensures) (sym (ap (ruled ((at-start .args .book) .now)) ((at-governed .governed .given) .1)) ∙ (at-governing .governing .ensures) .0)
-    (kept-rule ((at-start .args .book) .now) (zoneOf (at-start .args .first) ((at-start .args .ats) .now) ((at-start .args .offsets) .now)) ((at-day-at .day-at .result) .0) _ _ _ (stands-at ((at-start .args .book) .now) ((at-governing .governing .ensures) .1) ((at-governed .governed .given) .1)) (at-boundaries .boundaries .ensures))
+    begun ((at-start .args .book) .now) (zoneOf (at-start .args .first) ((at-start .args .ats) .now) ((at-start .args .offsets) .now)) (governing (map (ruleAt ((at-start .args .book) .now)) ((at-start .args .rules) .now))) (at-start .args .turns) (at-start .args .cursor) (at-day-at .day-at .result) _ _ _ (at-day-at .day-at .ensures) (sym (ap (ruled ((at-start .args .book) .now)) ((at-governed .governed .given) .1)) ∙ (at-governing .governing .ensures) .0) (kept-rule ((at-start .args .book) .now) (zoneOf (at-start .args .first) ((at-start .args .ats) .now) ((at-start .args .offsets) .now)) ((at-day-at .day-at .result) .0) _ _ _ refl (stands-at ((at-start .args .book) .now) ((at-governing .governing .ensures) .1) ((at-governed .governed .given) .1)) ((at-boundaries .boundaries .ensures) .0) ((at-boundaries .boundaries .ensures) .1))
 
 pub begin-spec : {M : Type 1} → statement M
 begin-spec =
@@ -53,8 +59,8 @@ begin-spec =
     (tie.spec
     day-at-requires
     governing-requires
-    (λ c. search needs)
-    (λ c. search needs)
+    enum-told
+    enum-known-governed
     boundaries-requires
     returns
     returns-2)

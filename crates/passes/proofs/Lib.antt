@@ -1,0 +1,4 @@
+mod Holes
+mod Passes
+mod Heads
+mod Steps

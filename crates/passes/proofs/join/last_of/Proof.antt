@@ -1,0 +1,16 @@
+use borrow.Author.Needs.{needs}
+use Rattle.passes.proofs.join.last_of.Statement.{statement}
+use Rattle.passes.proofs.join.last_of.Tie as tie
+
+returns : tie.Need-returns
+returns c =
+    let at-if1 = c in
+    rw (at-if1 .if1 .taken)
+
+returns-2 : tie.Need-returns-2
+returns-2 c =
+    let at-if1 = c in
+    rw (at-if1 .if1 .left)
+
+pub last-of-spec : {M : Type 1} → statement M
+last-of-spec = tie.close (tie.spec returns returns-2)

@@ -1,0 +1,209 @@
+// The second pass over a walk: it takes the same steps as the first, joins alike, and writes. The record of the last span is held back, and
+// its place kept free, until no further span joins it.
+ghost use Prim.Native.Nat.{_+_, _≤_, _<_};
+ghost use mathlib.Core.Path.{_≡_};
+ghost use mathlib.Core.Bool.{cond};
+ghost use lib.ListN.{length};
+ghost use Rattle.wire.specs.Fields.{Inside, Put};
+ghost use Rattle.zone.specs.Zone.{zoneOf};
+ghost use Rattle.zone.specs.Answers.{Valid};
+ghost use Rattle.venue.specs.Filled.{Ready};
+ghost use Rattle.walk.specs.Walking.{Fits};
+ghost use Rattle.answer.specs.Forms.{encodeAll};
+ghost use Rattle.passes.specs.Walked.{walkForms};
+ghost use Rattle.passes.specs.Private.{Room, closed, openOf, pieceHead, joinedHead};
+use crate::join::joined;
+use crate::join::joins;
+use crate::join::last_of;
+use answer::EVENT_BYTES;
+use answer::PHASE_BYTES;
+use answer::Phase;
+use answer::put_phase;
+use day::Segment;
+use tell::phase_of;
+use tell::put_events;
+use venue::point_phase;
+use venue::rule_evidence;
+use venue::rule_uncertainty;
+use walk::MOST_BOUNDARIES;
+use walk::MOST_TURNS;
+use walk::Piece;
+use walk::Pulled;
+use walk::begin;
+use walk::behind;
+use walk::pull;
+use walk::segment;
+use zone::Boundary;
+use zone::Instant;
+use zone::Uncertainty;
+use zone::widest;
+
+// The record of a piece, with so many events behind it. Where the piece is calm its uncertainties are the rule's, all three.
+fn head_of(book: &[u8], first: u32, ats: &[u64], offsets: &[u32], q: Piece, events: u32) -> Phase
+    requires { ⌜ Valid first (now ats) (now offsets) × Fits (now book) (zoneOf first (now ats) (now offsets)) q ⌝ }
+    ensures { λ r. ⌜ r ≡ pieceHead (now (book .entry)) (zoneOf first (now (ats .entry)) (now (offsets .entry))) q events ⌝ }
+{
+    let from = q.from;
+    let to = q.to;
+    if q.calm {
+        let rule = q.rule as usize;
+        let published = rule_uncertainty(book, rule);
+        let start = q.start;
+        let end = q.end;
+        let g = Segment {
+            start: Boundary {
+                at: start,
+                uncertainty: published,
+            },
+            end: Boundary {
+                at: end,
+                uncertainty: published,
+            },
+            phase: point_phase(book, rule, q.point),
+            rule: q.rule,
+        };
+        return phase_of(book, g, published, from, to, events);
+    }
+    let g = segment(book, first, ats, offsets, q);
+    let start = g.start;
+    let end = g.end;
+    let before = start.uncertainty;
+    let behind = end.uncertainty;
+    phase_of(book, g, widest(before, behind), from, to, events)
+}
+
+// Writes the record that is held back, if there is one: it is complete.
+fn close(out: &mut [u8], begun: bool, stand: usize, head: Phase)
+    requires { ⌜ Room (openOf begun stand head) (now out) ⌝ }
+    ensures { λ r. ⌜ now (out .exit) ≡ closed (now (out .entry)) (openOf begun stand head) ⌝ }
+{
+    if begun {
+        put_phase(out, stand, head);
+    }
+}
+
+// Where a span's events go: behind those of the record held back, which it joins, or behind a record of its own.
+fn events_place(
+    out: &mut [u8],
+    begun: bool,
+    stand: usize,
+    head: Phase,
+    joining: bool,
+    place: usize,
+) -> usize
+    requires { ⌜ Room (openOf begun stand head) (now out) × (place + cond joining 0 105 ≤ length (now out)) ⌝ }
+    ensures { λ r. ⌜ (r ≡ cond joining place (place + 105)) × (now (out .exit) ≡ cond joining (now (out .entry)) (closed (now (out .entry)) (openOf begun stand head))) ⌝ }
+{
+    if joining {
+        return place;
+    }
+    close(out, begun, stand, head);
+    place + PHASE_BYTES
+}
+
+// Where the record that is held back behind a span will stand.
+fn record_place(joining: bool, stand: usize, place: usize) -> usize
+    ensures { λ r. ⌜ r ≡ cond joining stand place ⌝ }
+{
+    if joining { stand } else { place }
+}
+
+// What the record that is held back behind a span says.
+fn told(joining: bool, head: Phase, new: Phase) -> Phase
+    requires { ⌜ cond joining (head .events) 0 + new .events < 4294967296 ⌝ }
+    ensures { λ r. ⌜ r ≡ cond joining (joinedHead head new) new ⌝ }
+{
+    if joining {
+        return joined(head, new);
+    }
+    new
+}
+
+// No record yet.
+fn blank() -> Phase
+    ensures { λ r. ⌜ r .events ≡ 0 ⌝ }
+{
+    let nowhere = Boundary {
+        at: Instant(0),
+        uncertainty: Uncertainty::Exact,
+    };
+    Phase {
+        start: Instant(0),
+        end: Instant(0),
+        phase: 0,
+        code: 0,
+        label: 0,
+        evidence: 0,
+        derived: 0,
+        from: nowhere,
+        to: nowhere,
+        whole: Uncertainty::Exact,
+        events: 0,
+    }
+}
+
+// Writes the walk from `lo` to before `hi`, from `at` on. Answers the place behind it.
+pub fn put_walk(
+    book: &[u8],
+    first: u32,
+    ats: &[u64],
+    offsets: &[u32],
+    rules: &[u32],
+    events: &[u32],
+    lo: Instant,
+    hi: Instant,
+    out: &mut [u8],
+    at: usize,
+) -> usize
+    requires { ⌜ Ready (now book) first (now ats) (now offsets) (now rules) (now events)
+        × Inside at (length (encodeAll (walkForms (now book) first (now ats) (now offsets) (now rules) (now events) (lo .0) (hi .0)))) (now out) ⌝ }
+    ensures { λ r. ⌜ Put (now (out .entry)) at
+        (encodeAll (walkForms (now (book .entry)) first (now (ats .entry)) (now (offsets .entry)) (now (rules .entry)) (now (events .entry)) (lo .0) (hi .0)))
+        (length (encodeAll (walkForms (now (book .entry)) first (now (ats .entry)) (now (offsets .entry)) (now (rules .entry)) (now (events .entry)) (lo .0) (hi .0))))
+        (now (out .exit)) r ⌝ }
+{
+    let mut edges = [0u64; MOST_BOUNDARIES];
+    let mut w = begin(
+        book,
+        first,
+        ats,
+        offsets,
+        rules,
+        &mut edges,
+        MOST_TURNS - 1,
+        lo,
+    );
+    let mut head = blank();
+    let mut begun = false;
+    let mut stand = at;
+    let mut place = at;
+    'pieces: loop {
+        match pull(book, first, ats, offsets, rules, &mut edges, hi, w) {
+            Pulled::Done => break 'pieces,
+            Pulled::Next(q) => {
+                let from = q.from;
+                let start = q.start;
+                let end = q.end;
+                let rule = q.rule as usize;
+                let until = head.end;
+                let joining = joins(
+                    last_of(begun, until, head.phase, head.evidence),
+                    from,
+                    point_phase(book, rule, q.point),
+                    rule_evidence(book, rule),
+                );
+                let trail = events_place(out, begun, stand, head, joining, place);
+                let done = put_events(book, first, ats, offsets, events, start, end, out, trail);
+                let count = (done - trail) / EVENT_BYTES;
+                let new = head_of(book, first, ats, offsets, q, count as u32);
+                stand = record_place(joining, stand, place);
+                head = told(joining, head, new);
+                begun = true;
+                place = done;
+                w = behind(q);
+            }
+        }
+    }
+    close(out, begun, stand, head);
+    place
+}
