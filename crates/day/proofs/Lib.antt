@@ -4,3 +4,4 @@ pub mod Cutting
 pub mod Points
 pub mod Theorems
 pub mod Opened
+pub mod Listed

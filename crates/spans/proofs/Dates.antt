@@ -1,4 +1,5 @@
--- A plain date fits the walk: its spans tile it if a rule governs it, and there are none if not. Assumes nothing.
+-- A date's spans stand one behind the other; between its midnights they show a phase everywhere if a rule governs the date, and there are
+-- none if not. Assumes nothing.
 use mathlib.Core.Path.{_≡_, refl, sym, ap, subst, _∙_}
 use mathlib.Core.Bool.{Bool, true, false, cond}
 use mathlib.Core.List.{List, [], _∷_}
@@ -10,12 +11,11 @@ use borrow.Author.Tests.{ltb-true, ltb-false}
 use lib.Dec.{ltb}
 use Rattle.spans.specs.Spans.{Mark, phase, Span, keep, clip, reach, look, Within, Tile}
 use Rattle.records.specs.Records.{Point, Rule}
-use Rattle.spans.specs.Timeline.{Edge, Venue, midnight, raised, lastEdge, between, cut, ofPoints, ofRule, spans, Rises, InOrder, PlainDate, Starts}
+use Rattle.spans.specs.Timeline.{Edge, Venue, midnight, raised, lastEdge, between, cut, ofPoints, ofRule, spans, Starts}
 use Rattle.spans.proofs.Lists.{keep-in, keep-late}
-use Rattle.spans.proofs.Walking.{Fits}
 
 module _ {A : Type 0} where
-  keep-tile : (a m b : ℕ) (x : A) (rest : List (Span A)) → a ≤ m → Tile m b rest → Tile a b (keep a m x rest)
+  pub keep-tile : (a m b : ℕ) (x : A) (rest : List (Span A)) → a ≤ m → Tile m b rest → Tile a b (keep a m x rest)
   unfolding keep
   keep-tile a m b x rest h w = go (ltb a m) refl
     where
@@ -26,7 +26,7 @@ module _ {A : Type 0} where
           let z : m ≡ a = omega arith in
           subst (λ (k : ℕ). Tile k b rest) z w
 
-  tile-within : (a b : ℕ) (ss : List (Span A)) → Tile a b ss → Within a b ss
+  pub tile-within : (a b : ℕ) (ss : List (Span A)) → Tile a b ss → Within a b ss
   tile-within a b [] w = omega arith
   tile-within a b (s ∷ ss) w = (omega arith, omega arith, tile-within (s .to) b ss (w .2))
 
@@ -44,7 +44,7 @@ module _ {A : Type 0} where
           let z : min hi a ≡ min hi (s .to) = omega arith in
           rw z on
 
-  tile-reach : (a b lo hi : ℕ) (ss : List (Span A)) → Tile a b ss → reach (min hi b) (clip lo hi ss) ≡ min hi b
+  pub tile-reach : (a b lo hi : ℕ) (ss : List (Span A)) → Tile a b ss → reach (min hi b) (clip lo hi ss) ≡ min hi b
   unfolding clip reach keep
   tile-reach a b lo hi [] w = refl
   tile-reach a b lo hi (s ∷ ss) w = go (ltb (max lo (s .from)) (min hi (s .to))) refl (tile-reach (s .to) b lo hi ss (w .2))
@@ -57,19 +57,7 @@ module _ {A : Type 0} where
       go false e on = on
 
 module _ {A : Type 0} (v : Venue A) (r : Rule) where
-  cut-tile : (s : Edge) (p : ℕ) (qs : List Point) → Rises v (s .date) (s .at) (midnight v (suc (s .date))) qs
-      → Tile (s .at) (midnight v (suc (s .date))) (cut v r s p qs)
-  unfolding cut
-  cut-tile s p [] h =
-      let e = raised v (s .at) (suc (s .date)) 0 in
-      keep-tile (s .at) (e .at) (midnight v (suc (s .date))) (v .body r s p e) [] (omega arith) (omega arith)
-  cut-tile s p (q ∷ qs) h =
-      let e = raised v (s .at) (s .date) (q .time) in
-      let z : v .conv (s .date) (q .time) ≡ e .at = omega arith in
-      keep-tile (s .at) (e .at) (midnight v (suc (s .date))) (v .body r s p e) (cut v r e (q .phase) qs) (omega arith)
-      (cut-tile e (q .phase) qs (subst (λ (x : ℕ). Rises v (s .date) x (midnight v (suc (s .date))) qs) z (h .1)))
-
-  -- whatever the date: from its first boundary to its last
+  -- from its first boundary to its last
   pub cut-tiles : (s : Edge) (p : ℕ) (qs : List Point) → Tile (s .at) (lastEdge v s qs .at) (cut v r s p qs)
   unfolding cut lastEdge
   cut-tiles s p [] =
@@ -110,14 +98,6 @@ day-tiles {A} v d r p ps g e =
     (cut-tiles v r (raised v 0 d (p .time)) (p .phase) ps))
 
 module _ {A : Type 0} (v : Venue A) (d : ℕ) where
-  -- a rule's spans of a plain date, if the rule starts at 00:00
-  points-tile : (r : Rule) (ps : List Point) → Starts ps → Rises v d (midnight v d) (midnight v (suc d)) ps → Tile (midnight v d) (midnight v (suc d)) (ofPoints v r d ps)
-  points-tile r [] s h = absurd s
-  points-tile r (p ∷ ps) s h =
-      let z : max 0 (v .conv d (p .time)) ≡ v .conv d (p .time) = omega arith in
-      subst (λ (x : ℕ). Tile x (midnight v (suc d)) (cut v r (raised v 0 d (p .time)) (p .phase) ps)) (z ∙ ap (v .conv d) s)
-      (cut-tile v r (raised v 0 d (p .time)) (p .phase) ps (subst (λ (x : ℕ). Rises v d x (midnight v (suc d)) ps) (sym z) (h .1)))
-
   module _ (mark : A → Mark) (t : ℕ) (shows : (r : Rule) (s n : Edge) (p : ℕ) → mark (v .body r s p n) ≡ phase p (r .evidence)) where
     points-look : (r : Rule) (ps : List Point) → Starts ps → midnight v d ≤ t → t < midnight v (suc d)
         → (k : ℕ) × (look mark (ofPoints v r d ps) t ≡ some (phase k (r .evidence)))
@@ -132,19 +112,3 @@ module _ {A : Type 0} (v : Venue A) (d : ℕ) where
   pub ungoverned : {C : Type 0} (f : A → C) (t : ℕ) → v .governing d ≡ none → look f (spans v d) t ≡ none
   unfolding spans look
   ungoverned f t g = ap (λ (o : Option Rule). look f (ofRule v d o) t) g
-
-  pub fits : ((r : Rule) → v .governing d ≡ some r → Starts (r .points)) → PlainDate v d → Fits v d
-  unfolding spans clip reach
-  fits starts plain =
-      let both = go (v .governing d) refl (plain .points) in
-      record { rising = plain .rising; reading = plain .reading; within = both .0; steps = both .1 }
-    where
-      go : (o : Option Rule) → v .governing d ≡ o → InOrder v d o
-          → Within (midnight v d) (midnight v (suc d)) (ofRule v d o)
-          × ((lo hi : ℕ) → reach (min hi (midnight v (suc d))) (clip lo hi (ofRule v d o)) ≡ min hi (midnight v (suc d)))
-      go none g h = (plain .rising, λ lo hi. refl)
-      go (some r) g h =
-          let tile = points-tile r (r .points) (starts r g) h in (
-            tile-within (midnight v d) (midnight v (suc d)) (ofPoints v r d (r .points)) tile,
-            λ lo hi. tile-reach (midnight v d) (midnight v (suc d)) lo hi (ofPoints v r d (r .points)) tile,
-          )

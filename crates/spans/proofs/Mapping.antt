@@ -1,13 +1,13 @@
--- Bodies exchanged for others: spans, walks and joined lists stay where they are. Assumes nothing.
+-- Bodies exchanged for others: spans, walks, joined lists and point answers stay where they are. Assumes nothing.
 use mathlib.Core.Path.{_≡_, refl, sym, ap, ap₂, _∙_}
 use mathlib.Core.Bool.{Bool, true, false, cond, _&&_}
 use mathlib.Core.List.{List, [], _∷_, _++_, map}
 use mathlib.Core.Option.{Option, none, some}
-use Prim.Native.Nat.{ℕ, zero, suc, min, max}
+use Prim.Native.Nat.{ℕ, zero, suc, _-_, min, max}
 use lib.Dec.{ltb, eqb}
 use Rattle.records.specs.Records.{Point, Rule}
-use Rattle.spans.specs.Spans.{Mark, Span, Body, keep, clip, reach, sameMark, joins, joinedSpan, joinFrom, joined}
-use Rattle.spans.specs.Timeline.{Edge, Venue, midnight, raised, cut, ofPoints, ofRule, spans, walk}
+use Rattle.spans.specs.Spans.{Mark, Span, Body, keep, clip, reach, holds, look, sameMark, joins, joinedSpan, joinFrom, joined}
+use Rattle.spans.specs.Timeline.{Edge, Venue, midnight, raised, cut, ofPoints, ofRule, spans, Part, inside, pointAt, walk}
 
 module _ {A C : Type 0} (f : A → C) where
   abbrev pub onSpan : Span A → Span C
@@ -113,3 +113,47 @@ module _ {A C : Type 0} (f : A → C) where
     unfolding joined
     joined-map [] = refl
     joined-map (s ∷ ss) = joinFrom-map s ss
+
+-- ---- what is shown, by another function of the same bodies, and of exchanged bodies
+
+abbrev pub onShown : {A C : Type 0} → (A → C) → Option A → Option C
+onShown f none = none
+onShown f (some x) = some (f x)
+
+pub look-by : {A C : Type 0} (f : A → C) (ss : List (Span A)) (t : ℕ) → look f ss t ≡ onShown f (look (λ (x : A). x) ss t)
+unfolding look
+look-by f [] t = refl
+look-by f (s ∷ ss) t = go (holds s t) (look-by f ss t)
+  where
+    go : (q : Bool) → look f ss t ≡ onShown f (look (λ x. x) ss t) → cond q (some (f (s .body))) (look f ss t) ≡ onShown f (cond q (some (s .body)) (look (λ x. x) ss t))
+    go true e = refl
+    go false e = e
+
+module _ {A C D : Type 0} (f : A → C) (g : C → D) where
+  pub look-map : (ss : List (Span A)) (t : ℕ) → look g (onSpans f ss) t ≡ look (λ (x : A). g (f x)) ss t
+  unfolding look
+  look-map [] t = refl
+  look-map (s ∷ ss) t = ap (cond (holds s t) (some (g (f (s .body))))) (look-map ss t)
+
+-- a point answer of exchanged bodies is that of the old ones, exchanged
+pub point-map : {A C D : Type 0} (f : A → C) (g : C → D) (v : Venue A) (c : Part) (t : ℕ)
+    → pointAt g (onVenue f v) c t ≡ onShown (λ (x : A). g (f x)) (pointAt (λ (x : A). x) v c t)
+unfolding pointAt
+point-map {A} {C} {D} f g v c t = go (inside c t)
+  where
+    d : ℕ
+    d = v .reads t
+
+    three : List (Span A)
+    three = spans v (d - 1) ++ (spans v d ++ spans v (suc d))
+
+    exchanged : onSpans f three ≡ spans (onVenue f v) (d - 1) ++ (spans (onVenue f v) d ++ spans (onVenue f v) (suc d))
+    exchanged =
+        append-map f (spans v (d - 1)) (spans v d ++ spans v (suc d))
+        ∙ ap₂ _++_ (spans-map f v (d - 1)) (append-map f (spans v d) (spans v (suc d)) ∙ ap₂ _++_ (spans-map f v d) (spans-map f v (suc d)))
+
+    go : (q : Bool) → cond q (look g (spans (onVenue f v) (d - 1) ++ (spans (onVenue f v) d ++ spans (onVenue f v) (suc d))) t) none
+        ≡ onShown (λ (x : A). g (f x)) (cond q (look (λ (x : A). x) three t) none)
+    go true =
+        ap (λ (ss : List (Span C)). look g ss t) (sym exchanged) ∙ look-map f g three t ∙ look-by (λ (x : A). g (f x)) three t
+    go false = refl

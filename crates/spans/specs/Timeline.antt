@@ -1,14 +1,12 @@
--- Point answers and timelines of a venue (document 01, phase rules 2 to 5), plain dates and plain windows.
--- Instants, dates and times of day are numbers. Assumes nothing.
+-- Point answers and timelines of a venue (document 01, phase rules 2 to 5). Instants, dates and times of day are numbers. Assumes nothing.
 use mathlib.Core.Path.{_≡_}
-use mathlib.Core.Logic.{_↔_}
 use mathlib.Core.Bool.{Bool, cond, _&&_}
 use mathlib.Core.List.{List, [], _∷_, _++_}
 use mathlib.Core.Option.{Option, none, some}
-use Prim.Native.Nat.{ℕ, zero, suc, _+_, _-_, _≤_, _<_, min, max}
+use Prim.Native.Nat.{ℕ, zero, suc, _-_, min, max}
 use lib.Dec.{leb, ltb}
 use Rattle.records.specs.Records.{Point, Rule}
-use Rattle.spans.specs.Spans.{Mark, phase, unknown, Span, Body, keep, clip, reach, look, joined}
+use Rattle.spans.specs.Spans.{Span, Body, keep, clip, reach, look, joined}
 
 -- a boundary: a time of a date, converted and raised to the instant `at`
 pub record Edge : Type 0 where
@@ -99,48 +97,7 @@ timeline B v gap c w = joined B (unjoined v gap c w)
 unfoldable pub blank : {A : Type 0} → A → Part → List (Span A)
 blank gap w = keep (w .start) (w .end) gap []
 
--- the points convert in non-falling order from lo to hi
-abbrev pub Rises : {A : Type 0} → Venue A → ℕ → ℕ → ℕ → List Point → Type 0
-Rises v d lo hi [] = lo ≤ hi
-Rises v d lo hi (p ∷ ps) = (lo ≤ v .conv d (p .time)) × Rises v d (v .conv d (p .time)) hi ps
-
-abbrev pub InOrder : {A : Type 0} → Venue A → ℕ → Option Rule → Type 0
-InOrder v d none = Unit {0}
-InOrder v d (some r) = Rises v d (midnight v d) (midnight v (suc d)) (r .points)
-
-pub record PlainDate {A : Type 0} (v : Venue A) (d : ℕ) : Type 0 where
-  pub rising : midnight v d ≤ midnight v (suc d)
-  pub points : InOrder v d (v .governing d)
-  pub reading : (t : ℕ) → midnight v d ≤ t → t < midnight v (suc d) → v .reads t ≡ d
-
--- `count` plain dates from `first` on, whose midnights enclose the window, and the dates before and after them plain
-pub record PlainWindow {A : Type 0} (v : Venue A) (w : Part) : Type 0 where
-  pub first : ℕ
-  pub count : ℕ
-  pub few : count ≤ turns
-  pub later : 0 < first
-  pub plain : (d : ℕ) → first ≤ suc d → d ≤ first + count → PlainDate v d
-  pub opens : midnight v first ≤ w .start
-  pub closes : w .end ≤ midnight v (first + count)
-
--- what an accepted book has: each rule's first point is at 00:00, and a body shows its point's phase and its rule's evidence
+-- an accepted rule's first point is at 00:00
 abbrev pub Starts : List Point → Type 0
 Starts [] = ⊥
 Starts (p ∷ ps) = p .time ≡ 0
-
-pub record Accepted {A : Type 0} (B : Body A) (v : Venue A) (gap : A) (c : Part) : Type 0 where
-  pub starts : (d : ℕ) (r : Rule) → v .governing d ≡ some r → Starts (r .points)
-  pub shows : (r : Rule) (s e : Edge) (p : ℕ) → B .mark (v .body r s p e) ≡ phase p (r .evidence)
-  pub merges : (a b : A) → B .mark (B .merge a b) ≡ B .mark a
-  pub lacks : B .mark gap ≡ unknown
-  pub covers : c .start < c .end
-
-abbrev pub Covered : Part → ℕ → Type 0
-Covered c t = (c .start ≤ t) × (t < c .end)
-
--- what the timeline shows at t, against the point answer at t
-pub record Agrees {A : Type 0} (v : Venue A) (c : Part) (t : ℕ) (shown point : Option Mark) : Type 0 where
-  pub known : (p e : ℕ) → (shown ≡ some (phase p e)) ↔ (point ≡ some (phase p e))
-  pub not-known : (point ≡ none) ↔ ((p e : ℕ) → shown ≡ some (phase p e) → ⊥)
-  pub outside : (shown ≡ some unknown) ↔ (Covered c t → ⊥)
-  pub nothing : (shown ≡ none) ↔ (Covered c t × (v .governing (v .reads t) ≡ none))

@@ -1,5 +1,5 @@
-// A theory of point answers and timelines over any venue: spans, the point, the walk, joining, plain dates and windows, totals. It is in
-// specs/ and proofs/; the code that they share is which of two instants is the later and which the earlier.
+// A theory of point answers and timelines over any venue: spans, the point, the walk, joining, totals. It is in specs/ and proofs/; the code
+// that they share is which of two instants is the later and which the earlier.
 ghost use mathlib.Core.Path.{_≡_};
 ghost use Prim.Native.Nat.{min, max};
 

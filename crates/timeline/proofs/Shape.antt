@@ -17,7 +17,7 @@ use Rattle.venue.proofs.Laws.{good-coverage}
 use Rattle.spans.specs.Spans.{Span, keep, Within, Apart}
 use Rattle.spans.specs.Timeline.{Part, unjoined, timeline, blank}
 use Rattle.spans.proofs.Joining.{joined-within, joined-apart}
-use Rattle.spans.proofs.Plain.{unjoined-within, blank-shape}
+use Rattle.spans.proofs.Shape.{unjoined-within, blank-shape}
 use Rattle.day.specs.Days.{valuesOf}
 use Rattle.query.specs.Judging.{windowRefusal, windowOf}
 use Rattle.query.specs.declared.Window.{Window}

@@ -2,6 +2,7 @@
 //!
 //!     compare points --seed S --books N [--from I] [--long]
 //!     compare windows --seed S --books N [--from I] [--long]
+//!     compare plain --seed S --books N [--from I] [--long]
 //!     compare places
 //!     compare list --seed S --books N FILE
 //!     compare zones --seed S --books N
@@ -10,6 +11,7 @@
 //! both, and `--seed S --from I --books 1` asks again. It ends with 1 on the first difference, and
 //! under `--long` where something was met too seldom.
 
+mod agree;
 mod answer;
 mod ask;
 mod book;
@@ -17,9 +19,12 @@ mod count;
 mod damage;
 mod given;
 mod judge;
+mod lacking;
 mod list;
 mod make;
 mod places;
+mod plain;
+mod plain_books;
 mod port;
 mod random;
 mod speed;
@@ -410,7 +415,7 @@ fn run_list(arguments: &Arguments, file: &str) {
 fn main() {
     let Some(arguments) = arguments() else {
         eprintln!(
-            "usage: compare points|speed|windows|places|list|zones [--seed S] [--from I] [--books N] [--long] [FILE]"
+            "usage: compare points|speed|windows|plain|places|list|zones [--seed S] [--from I] [--books N] [--long] [FILE]"
         );
         exit(2);
     };
@@ -418,6 +423,12 @@ fn main() {
         "points" => run_points(&arguments),
         "windows" => run_windows(&arguments),
         "places" => places::run(),
+        "plain" => agree::run(
+            arguments.seed,
+            arguments.from,
+            arguments.books,
+            arguments.long,
+        ),
         "list" => run_list(&arguments, arguments.file.as_deref().unwrap_or("list")),
         "speed" => speed::run(),
         "zones" => zones::run(arguments.seed, arguments.books),

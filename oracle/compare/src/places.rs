@@ -9,19 +9,19 @@ use crate::port::{self, Room};
 use std::process::exit;
 
 const MONDAY: i64 = 20_458;
-const DAY: i64 = 86_400;
-const HOUR: i64 = 3_600;
+pub const DAY: i64 = 86_400;
+pub const HOUR: i64 = 3_600;
 
-fn at(seconds: i64) -> i64 {
+pub fn at(seconds: i64) -> i64 {
     (MONDAY * DAY + seconds) * SECOND
 }
 
 /// Coverage from five days before Monday to twenty after, and a first offset.
-fn head(offset: i64) -> Record {
+pub fn head(offset: i64) -> Record {
     covering(-5 * DAY, 20 * DAY, offset)
 }
 
-fn covering(start: i64, end: i64, offset: i64) -> Record {
+pub fn covering(start: i64, end: i64, offset: i64) -> Record {
     Record::Head {
         start: at(start),
         end: at(end),
@@ -29,7 +29,7 @@ fn covering(start: i64, end: i64, offset: i64) -> Record {
     }
 }
 
-fn change(seconds: i64, offset: i64) -> Record {
+pub fn change(seconds: i64, offset: i64) -> Record {
     Record::Change {
         at: MONDAY * DAY + seconds,
         offset: offset as i32,
@@ -45,7 +45,7 @@ fn tag(tag: u8) -> Published {
 }
 
 /// A weekly rule of evidence 1, exact, with times in seconds of the day.
-fn weekly(mask: u8, points: &[(i64, u8)]) -> Rule {
+pub fn weekly(mask: u8, points: &[(i64, u8)]) -> Rule {
     Rule {
         first: DAYS[0],
         last: DAYS[1],
@@ -63,7 +63,7 @@ fn weekly(mask: u8, points: &[(i64, u8)]) -> Rule {
 }
 
 /// Closed on every date, in one span.
-fn closed() -> Record {
+pub fn closed() -> Record {
     Record::Rule(weekly(127, &[(0, 0)]))
 }
 
@@ -161,12 +161,12 @@ fn told(answer: &Answer) -> String {
 
 /// One question: its place in DIFFERENCES, the book, the query, the room (as long as it takes where none is said), and
 /// what both sides have to tell: the number, then the answer.
-struct Doubtful {
-    name: &'static str,
-    book: Vec<Record>,
-    query: Query,
-    room: Option<usize>,
-    expected: &'static [&'static str],
+pub struct Doubtful {
+    pub name: &'static str,
+    pub book: Vec<Record>,
+    pub query: Query,
+    pub room: Option<usize>,
+    pub expected: &'static [&'static str],
 }
 
 /// Asks both sides and tells what each said.
@@ -719,20 +719,23 @@ fn places() -> Vec<Doubtful> {
     ]
 }
 
+/// Asks one of both sides; ends with 1 where one of them does not tell what is expected.
+pub fn expect(one: &Doubtful) {
+    let [rust, port] = ask(one);
+    println!("{}", one.name);
+    for line in &rust {
+        println!("  {line}");
+    }
+    if rust != port || rust != one.expected {
+        println!("DIFFERENCE\nport {port:#?}\nexpected {:#?}", one.expected);
+        exit(1);
+    }
+}
+
 /// Asks every place; the first that is not as expected, on either side, ends the run with 1.
 pub fn run() {
     let places = places();
-    for one in &places {
-        let [rust, port] = ask(one);
-        println!("{}", one.name);
-        for line in &rust {
-            println!("  {line}");
-        }
-        if rust != port || rust != one.expected {
-            println!("DIFFERENCE\nport {port:#?}\nexpected {:#?}", one.expected);
-            exit(1);
-        }
-    }
+    places.iter().for_each(expect);
     // The Rust has a function that says whether a timeline tiles: it does not, beside a date that no rule governs.
     let hole = places.iter().find(|one| one.name.starts_with("tile"));
     let hole = hole.expect("the place");

@@ -3,25 +3,36 @@
 use mathlib.Core.Path.{_≡_, refl, subst}
 use mathlib.Core.Bool.{Bool, true, false, cond}
 use mathlib.Core.Option.{none, some}
-use Prim.Native.Nat.{ℕ, _≤_, _<_}
+use Prim.Native.Nat.{ℕ, suc, _≤_, _<_}
 use native.Mathlib.Omega.{arith}
 use lib.Dec.{eqb}
-use Rattle.spans.specs.Spans.{unknown, look}
 use Rattle.records.specs.Records.{Rule}
-use Rattle.spans.specs.Timeline.{PlainDate, PlainWindow, InOrder, Starts, Accepted, Agrees, timeline, pointAt}
+use Rattle.spans.specs.Spans.{unknown, look}
+use Rattle.spans.specs.Timeline.{midnight, Starts, timeline, pointAt}
 use Rattle.spans.specs.Examples.{B, r, v, cover, window}
-use Rattle.spans.proofs.Plain.{plain}
+use Rattle.plain.specs.Plain.{PlainDate, PlainWindow, InOrder, Accepted, Agrees}
+use Rattle.plain.proofs.Agreeing.{plain}
 
 date : (d : ℕ) → PlainDate v d
 date d = record { rising = omega arith; points = go (eqb d 13); reading = λ t a b. omega arith }
   where
-    go : (q : Bool) → InOrder v d (cond q none (some r))
+    go : (q : Bool) → InOrder (v .conv d) (midnight v d) (midnight v (suc d)) (cond q none (some r))
     go true = tt
     go false = omega arith
 
 pub plain-window : PlainWindow v window
 plain-window =
-    record { first = 10; count = 6; few = omega arith; later = omega arith; plain = λ d a b. date d; opens = omega arith; closes = omega arith }
+    record {
+      first = 10;
+      count = 6;
+      few = omega arith;
+      run = λ d a b. date d;
+      opens = omega arith;
+      closes = omega arith;
+      later = omega arith;
+      before = date 9;
+      after = date 16;
+    }
 
 one-rule : (q : Rule) (b : Bool) → cond b none (some r) ≡ some q → r ≡ q
 one-rule q true g = cc

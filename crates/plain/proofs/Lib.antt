@@ -1,0 +1,8 @@
+pub mod Dates
+pub mod Agreeing
+pub mod Totals
+pub mod Example
+pub mod Books
+pub mod Tallied
+pub mod Steady
+pub mod BookA
