@@ -5,4 +5,6 @@ pub mod Example
 pub mod Books
 pub mod Tallied
 pub mod Steady
-pub mod BookA
+pub mod Deciding
+pub mod Looking
+pub mod Table

@@ -1,2 +1,4 @@
 pub mod Plain
 pub mod Books
+pub mod Deciding
+pub mod Examples

@@ -1,2 +1,7 @@
-// Plain dates and plain windows, and the theorem about them: over a plain window the timeline and the point answers agree at every
-// instant. It is in specs/ and proofs/; there is no code.
+// Plain dates and plain windows: whether a window is plain, and the theorem that over a plain window the timeline and the point answers
+// agree at every instant. The theorem is in specs/ and proofs/.
+
+mod date;
+mod window;
+
+pub use window::is_plain;

@@ -27,13 +27,13 @@ use Rattle.records.specs.Records.{Published, Point, Rule, Event, Coverage, rule
 use Rattle.records.specs.Book.{refusal, records}
 use Rattle.records.specs.Valid.{Bytes, FitsRule, FitsEvent}
 use Rattle.venue.specs.Opening.{dayOf, offsetOf, coverageOf, rulesOf, eventsOf, atsOf, offsetsOf, places}
-use Rattle.venue.specs.Reading.{Listed, AllListed, published, EachPoint, GoodRule}
-use Rattle.venue.proofs.Laws.{good-rule, places-listed, rules-listed, events-listed, events-count, zone-valid}
+use Rattle.venue.specs.Reading.{Listed, published, EachPoint, GoodRule}
+use Rattle.venue.proofs.Laws.{good-rule, places-listed, events-listed, events-count, zone-valid}
 use Rattle.spans.specs.Spans.{Span, Body, keep, clip, reach, joins, joinedSpan, joinFrom, joined}
 use Rattle.spans.specs.Timeline.{Edge, Venue, Part, midnight, raised, cut, ofPoints, ofRule, spans, walk, turns, unjoined, timeline}
-use Rattle.day.specs.Governing.{governing, nth}
+use Rattle.day.specs.Governing.{governing}
 use Rattle.day.specs.Days.{boundaryOf, valuesOf}
-use Rattle.day.proofs.Governs.{governs}
+use Rattle.day.proofs.Listed.{governing-listed}
 use Rattle.walk.proofs.Laws.{walk-length}
 use Rattle.events.specs.Happenings.{happens, occurrence, onTimes, onDate, onDates, found, insert, byInstant}
 use Rattle.events.specs.declared.Occurrence.{Occurrence}
@@ -435,15 +435,6 @@ module _ (s : List ℕ) (b : Bytes s) where
   events-fit [] = tt
   events-fit (p ∷ ps) = (event-fits p, events-fit ps)
 
-  -- the rule that governs is a listed one
-  governing-fits : (ps : List ℕ) → AllListed 3 s ps → (d : ℕ) (r : Rule) → governing (map (ruleAt s) ps) d ≡ some r → RuleFits r
-  governing-fits ps listed d r e = let g = governs (map (ruleAt s) ps) d r e in go ps (g .place) listed (g .listed)
-    where
-      go : (ps : List ℕ) (i : ℕ) → AllListed 3 s ps → nth (map (ruleAt s) ps) i ≡ some r → RuleFits r
-      go [] i l q = let n : _≡_ {A = ℕ} 0 1 = cc in absurd (omega arith)
-      go (p ∷ ps) zero l q = let same : ruleAt s p ≡ r = cc in subst RuleFits same (rule-fits p (l 0 (omega arith)))
-      go (p ∷ ps) (suc i) l q = go ps i (λ j h. l (suc j) (omega arith)) q
-
   -- every segment of its timelines
   pub segments-good : refusal base s ≡ 0 → (c : Coverage) → coverageOf (records s) ≡ some c → (w : Part) → Bodies (Shows rowMost) (timelineOf (valuesOf (records s) c) w)
   segments-good e c q w =
@@ -453,7 +444,7 @@ module _ (s : List ℕ) (b : Bytes s) where
       let v = valuesOf rs c in
       let n = events-count s e in
       timeline-good o (atsOf rs) (offsetsOf rs) ok (governing (rulesOf rs))
-      (λ d r i. governing-fits (places 3 s) (places-listed 3 s e) d r (ap (λ (l : List Rule). governing l d) (rules-listed s e) ∙ i)) (eventsOf rs)
+      (λ d r i. let l = governing-listed s e d r i in subst RuleFits (l .is) (rule-fits (l .place) (l .listed))) (eventsOf rs)
       (subst (Every EventFits) (events-listed s e) (events-fit (places 4 s)))
       (λ from to h. subst (λ (l : List Event). length (found (v .zone) l from to) ≤ spanMost) (events-listed s e)
       (few s o (atsOf rs) (offsetsOf rs) (places 4 s) ok (places-listed 4 s e) (omega (arith, n)) from to h))

@@ -5,7 +5,7 @@ use mathlib.Core.Option.{Option, none, some}
 use mathlib.Core.Bool.{Bool, true, cond}
 use Prim.Native.Nat.{ℕ, _+_, _*_, _^_, _≤_, _<_}
 use native.Mathlib.Omega.{arith}
-use borrow.Author.Tests.{leb-true, eq-eqb}
+use borrow.Author.Tests.{leb-true}
 use lib.IntN.{ℤ, pos, negsuc}
 use lib.ListN.{length}
 use lib.Signed.{leZ}
@@ -18,7 +18,6 @@ use Rattle.zone.specs.Answers.{values}
 use Rattle.zone.specs.declared.Uncertainty.{Uncertainty}
 use Rattle.zone.specs.declared.Uncertainty.the-variants.{Exact, PublishedGranularity, PublishedBound, ProcessStart, AmbiguousLocalTime, NonexistentLocalTime}
 use Rattle.zone.proofs.Domain.{instantZero, instant-placed}
-use Rattle.zone.specs.declared.Instant.{Instant}
 use Rattle.records.specs.Limits.{base}
 use Rattle.records.specs.Records.{Coverage}
 use Rattle.records.specs.Book.{refusal, records, inside, instants}
@@ -29,10 +28,9 @@ use Rattle.venue.proofs.Known.{Known, start-number, end-number}
 use Rattle.spans.specs.Spans.{Span, Within}
 use Rattle.spans.specs.Timeline.{Part, blank}
 use Rattle.spans.proofs.Lists.{ordered}
-use Rattle.query.specs.Judging.{windowRefusal, windowOf}
-use Rattle.query.specs.declared.Window.the-variants.{Refused, Between}
+use Rattle.query.specs.Judging.{windowRefusal}
 use Rattle.query.proofs.Instants.{instant-meant}
-use Rattle.query.proofs.Windows.{Windowed, window-between}
+use Rattle.query.proofs.Order.{window-passed}
 use Rattle.events.specs.declared.Occurrence.{Occurrence}
 use Rattle.answer.specs.Forms.{Cover, Form}
 use Rattle.answer.specs.Fitting.{FitsCover}
@@ -159,14 +157,6 @@ module _ (s : List ℕ) (z : refusal base s ≡ 0) where
   bodies-by b w none q = bodies-keep (Shows rowMost) (w .start) (w .end) none [] tt tt
   bodies-by b w (some c) q = segments-good s b z c q w
 
--- a window that passes
-pub passed-window : (m n : ℤ) → windowRefusal m n ≡ 0 → Windowed m n (record { 0 = instantOf m }) (record { 0 = instantOf n })
-unfolding windowOf
-passed-window m n e =
-    let a : Instant = record { 0 = instantOf m } in
-    let b : Instant = record { 0 = instantOf n } in
-    window-between m n {a = a} {b = b} (sym (ap (λ (q : Bool). cond q (Between a b) (Refused (windowRefusal m n))) (eq-eqb (windowRefusal m n) 0 e)))
-
 instant-used : (z : ℤ) → inside instants z ≡ true → instantOf z ≤ lastInstant
 instant-used (pos k) e = omega (arith, leb-true k (7226582400 * secondNs) (and-true (leZ (instants .low) (pos k)) (leZ (pos k) (instants .high)) e .1))
 instant-used (negsuc k) e = omega arith
@@ -177,7 +167,7 @@ pub window-row : (s : List ℕ) (m n : ℤ) → Bytes s → refusal base s ≡ 0
 window-row s m n b z e =
     let h = window-shape s m n z e in
     let o = coverageOf (records s) in
-    let u = instant-used n (passed-window m n e .end-in) in
+    let u = instant-used n (window-passed m n e .end-in) in
     let w : Part = record { start = instantOf m; end = instantOf n } in
     subst (RowFrom 0) (sym (h .forms))
     (segments-row (statedCover o) (cover-fits s z o refl) (instantOf n) rowMost u (omega arith) (instantOf m) 0 (segmentsOf s m n) (h .within)

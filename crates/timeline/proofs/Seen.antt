@@ -19,6 +19,7 @@ use Rattle.records.specs.Valid.{Bytes}
 use Rattle.venue.specs.Opening.{instantOf, coverageOf}
 use Rattle.spans.specs.Spans.{Mark, Span, Body, look, holds, segmentAt, Within, Differ, Apart}
 use Rattle.query.specs.Judging.{windowRefusal}
+use Rattle.query.proofs.Order.{window-passed}
 use Rattle.events.specs.declared.Occurrence.{Occurrence}
 use Rattle.answer.specs.Forms.{Cover, Form}
 use Rattle.rows.specs.Rows
@@ -29,7 +30,7 @@ use Rattle.tell.specs.Shown.{Shown, eventForm}
 use Rattle.timeline.specs.Segments.{markOf, segments}
 use Rattle.timeline.specs.Asking.{segmentForms, timelineForms, windowForms, windowAnswer}
 use Rattle.timeline.proofs.Shape.{segmentsOf, statedCover, window-shape}
-use Rattle.timeline.proofs.Row.{number-placed, instant-of, passed-window, window-row}
+use Rattle.timeline.proofs.Row.{number-placed, instant-of, window-row}
 
 -- ---- a segment as it is read
 
@@ -146,7 +147,7 @@ module _ (s : List ℕ) (m n : ℤ) (b : Bytes s) (a : refusal base s ≡ 0) (e 
   pub row-shape : Within (placed w64 m) (placed w64 n) (Rows.segments (windowAnswer s m n)) × Apart seenMarks (Rows.segments (windowAnswer s m n))
   row-shape =
       let h = window-shape s m n a e in
-      let w = passed-window m n e in
+      let w = window-passed m n e in
       let ss = segmentsOf s m n in (
         subst (Within (placed w64 m) (placed w64 n)) (sym row-segments)
             (seen-within (instantOf m) (instantOf n) (placed w64 m) (placed w64 n) ss (instant-of m (w .start-in)) (instant-of n (w .end-in)) (h .within)),

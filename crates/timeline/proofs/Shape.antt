@@ -5,10 +5,8 @@ use mathlib.Core.Bool.{Bool, true, false, cond}
 use mathlib.Core.List.{List, [], _∷_}
 use mathlib.Core.Option.{Option, none, some}
 use Prim.Native.Nat.{ℕ, _<_}
-use borrow.Author.Tests.{eq-eqb}
 use lib.Dec.{ltb}
 use lib.IntN.{ℤ}
-use Rattle.zone.specs.declared.Instant.{Instant}
 use Rattle.records.specs.Limits.{base}
 use Rattle.records.specs.Records.{Coverage, Record}
 use Rattle.records.specs.Book.{refusal, records}
@@ -19,10 +17,8 @@ use Rattle.spans.specs.Timeline.{Part, unjoined, timeline, blank}
 use Rattle.spans.proofs.Joining.{joined-within, joined-apart}
 use Rattle.spans.proofs.Shape.{unjoined-within, blank-shape}
 use Rattle.day.specs.Days.{valuesOf}
-use Rattle.query.specs.Judging.{windowRefusal, windowOf}
-use Rattle.query.specs.declared.Window.{Window}
-use Rattle.query.specs.declared.Window.the-variants.{Refused, Between}
-use Rattle.query.proofs.Windows.{window-between}
+use Rattle.query.specs.Judging.{windowRefusal}
+use Rattle.query.proofs.Order.{window-passed}
 use Rattle.answer.specs.Forms.{Cover}
 use Rattle.tell.specs.Shown.{Shown}
 use Rattle.timeline.specs.Segments.{segments, showing, timelineOf}
@@ -45,14 +41,6 @@ pub record Shape (s : List ℕ) (m n : ℤ) : Type 0 where
   pub forms : windowForms s m n ≡ timelineForms (statedCover (coverageOf (records s))) (segmentsOf s m n)
   pub within : Within (instantOf m) (instantOf n) (segmentsOf s m n)
   pub apart : Apart segments (segmentsOf s m n)
-
--- a window that passes ends after its start
-window-order : (m n : ℤ) → windowRefusal m n ≡ 0 → instantOf m < instantOf n
-unfolding windowOf
-window-order m n e =
-    let a : Instant = record { 0 = instantOf m } in
-    let b : Instant = record { 0 = instantOf n } in
-    window-between m n {a = a} {b = b} (sym (ap (λ (q : Bool). cond q (Between a b) (Refused (windowRefusal m n))) (eq-eqb (windowRefusal m n) 0 e))) .order
 
 module _ (rs : List Record) (w : Part) (h : w .start < w .end) where
   forms-by : (o : Option Coverage) → byCoverage rs w o ≡ timelineForms (statedCover o) (segmentsBy rs w o)
@@ -86,7 +74,7 @@ pub window-shape : (s : List ℕ) (m n : ℤ) → refusal base s ≡ 0 → windo
 window-shape s m n z e =
     let rs = records s in
     let w : Part = record { start = instantOf m; end = instantOf n } in
-    let h = window-order m n e in
+    let h = window-passed m n e .order in
     record {
       forms = forms-by rs w h (coverageOf rs);
       within = within-by rs w h (coverageOf rs) (λ c q. good-coverage s z c q .order);

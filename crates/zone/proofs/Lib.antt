@@ -4,3 +4,5 @@ pub mod Passing
 pub mod Boundaries
 pub mod Domain
 pub mod Validity
+pub mod Throughout
+pub mod Ahead

@@ -40,7 +40,7 @@ same-offset t o (a ∷ ats) [] s b = refl
 same-offset t o (a ∷ ats) (p ∷ os) s b = to-come o a p t ats os b ∙ (same-offset t o ats os (s .1) (beyond-next t a ats (s .0) (omega arith)))
 
 -- the first of spaced instants is not later than another
-first-least : (a : ℕ) (ats : List ℕ) (k : ℕ) → Spaced (a ∷ ats) → k < length (a ∷ ats) → a ≤ getD (a ∷ ats) k 0
+pub first-least : (a : ℕ) (ats : List ℕ) (k : ℕ) → Spaced (a ∷ ats) → k < length (a ∷ ats) → a ≤ getD (a ∷ ats) k 0
 first-least a ats zero s h = omega arith
 first-least a [] (suc k) s h = absurd (not-suc-le-zero (le-of-suc-le-suc h))
 first-least a (b ∷ ats) (suc k) s h = let on = first-least b ats k (s .1) (le-of-suc-le-suc h) in omega arith

@@ -1,5 +1,6 @@
 // Instants and a venue's wall readings, after RFC 9636: the only crate that adds an offset or takes one away.
 mod convert;
+mod dated;
 mod number;
 mod search;
 mod valid;
@@ -13,6 +14,7 @@ pub use convert::taken;
 pub use convert::time_of_reading;
 pub use convert::to_utc;
 pub use convert::to_utc_at;
+pub use dated::reads_throughout;
 pub use number::Timed;
 pub use number::instant_of;
 pub use number::number_of;

@@ -1,0 +1,29 @@
+-- The windows of the table are plain, or are not, as it says. Assumes nothing.
+use mathlib.Core.Path.{_≡_, sym, _∙_}
+use mathlib.Core.Bool.{Bool, true, false}
+use mathlib.Core.List.{List, [], _∷_, map}
+use Prim.Native.Nat.{ℕ}
+use native.Mathlib.Omega.{arith}
+use borrow.Author.Tests.{ltb-true}
+use Rattle.venue.specs.Opening.{instantOf}
+use Rattle.plain.specs.Deciding.{Decides}
+use Rattle.plain.specs.Examples.{Case, table, bytesOf, startOf, endOf, told, answers, forward, forwards, Says, Each, Holds}
+use Rattle.plain.proofs.Deciding.{book-decides}
+
+says : {P : Type 0} (b q : Bool) → Decides b P → b ≡ q → Says q P
+says b true d e = d .yes e
+says b false d e = λ p. let f : false ≡ true = sym e ∙ d .no p in absurd (let z : _≡_ {A = ℕ} 0 1 = cc in omega arith)
+
+each : (cs : List Case) → map told cs ≡ map (λ (c : Case). c .plain) cs → map forward cs ≡ map (λ (c : Case). true) cs → Each Holds cs
+each [] e f = tt
+each (c ∷ cs) e f =
+    let h : told c ≡ c .plain = cc in
+    let t : map told cs ≡ map (λ (c : Case). c .plain) cs = cc in
+    let i : forward c ≡ true = cc in
+    let u : map forward cs ≡ map (λ (c : Case). true) cs = cc in (
+      says (told c) (c .plain) (book-decides (bytesOf c) (startOf c) (endOf c) (ltb-true (instantOf (startOf c)) (instantOf (endOf c)) i)) h,
+      each cs t u,
+    )
+
+pub holds : Each Holds table
+holds = each table answers forwards

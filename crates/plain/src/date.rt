@@ -1,0 +1,98 @@
+// Whether a date is plain.
+ghost use mathlib.Core.Path.{_≡_};
+ghost use mathlib.Core.List.{map};
+ghost use Rattle.zone.specs.Zone.{zoneOf};
+ghost use Rattle.zone.specs.Answers.{Valid};
+ghost use Rattle.records.specs.Records.{ruleAt};
+ghost use Rattle.venue.specs.Reading.{Listed, AllListed};
+ghost use Rattle.day.specs.Governing.{governing as Governing·governing};
+ghost use Rattle.plain.specs.Deciding.{rises as Deciding·rises, inOrder, plainDate, takenAt};
+use calendar::Day;
+use day::Governed;
+use day::governing;
+use day::midnight_after;
+use venue::point_time;
+use venue::rule_points;
+use zone::Instant;
+use zone::Uncertainty;
+use zone::reads_throughout;
+use zone::to_utc_at;
+
+// Whether the points of the rule at a place convert in non-falling order between two instants.
+fn rises(
+    book: &[u8],
+    first: u32,
+    ats: &[u64],
+    offsets: &[u32],
+    rule: u32,
+    d: Day,
+    from: Instant,
+    to: Instant,
+) -> bool
+    requires { ⌜ Valid first (now ats) (now offsets) × Listed 3 (now book) rule ⌝ }
+    ensures { λ r. ⌜ r ≡ Deciding·rises (takenAt (zoneOf first (now (ats .entry)) (now (offsets .entry))) (d .0)) (from .0) (to .0) (ruleAt (now (book .entry)) rule .points) ⌝ }
+{
+    let place = rule as usize;
+    let n = rule_points(book, place);
+    let mut before = from.0;
+    let mut i: usize = 0;
+    while i < n {
+        let own = to_utc_at(
+            first,
+            ats,
+            offsets,
+            d,
+            point_time(book, place, i),
+            Uncertainty::Exact,
+        );
+        let at = own.at;
+        if at.0 < before {
+            return false;
+        }
+        before = at.0;
+        i += 1;
+    }
+    before <= to.0
+}
+
+// Whether those of the rule that governs a date do, if there is one.
+fn in_order(
+    book: &[u8],
+    first: u32,
+    ats: &[u64],
+    offsets: &[u32],
+    rules: &[u32],
+    d: Day,
+    from: Instant,
+    to: Instant,
+) -> bool
+    requires { ⌜ Valid first (now ats) (now offsets) × AllListed 3 (now book) (now rules) ⌝ }
+    ensures { λ r. ⌜ r ≡ inOrder (takenAt (zoneOf first (now (ats .entry)) (now (offsets .entry))) (d .0)) (from .0) (to .0)
+        (Governing·governing (map (ruleAt (now (book .entry))) (now (rules .entry))) (d .0)) ⌝ }
+{
+    match governing(book, rules, d) {
+        Governed::Nothing => true,
+        Governed::By(rule) => rises(book, first, ats, offsets, rule, d, from, to),
+    }
+}
+
+pub(crate) fn is_plain_date(
+    book: &[u8],
+    first: u32,
+    ats: &[u64],
+    offsets: &[u32],
+    rules: &[u32],
+    d: Day,
+) -> bool
+    requires { ⌜ Valid first (now ats) (now offsets) × AllListed 3 (now book) (now rules) ⌝ }
+    ensures { λ r. ⌜ r ≡ plainDate (zoneOf first (now (ats .entry)) (now (offsets .entry)))
+        (Governing·governing (map (ruleAt (now (book .entry))) (now (rules .entry)))) (d .0) ⌝ }
+{
+    let opening = to_utc_at(first, ats, offsets, d, 0, Uncertainty::Exact);
+    let closing = midnight_after(first, ats, offsets, d, Uncertainty::Exact);
+    let from = opening.at;
+    let to = closing.at;
+    (from.0 <= to.0)
+        & in_order(book, first, ats, offsets, rules, d, from, to)
+        & reads_throughout(first, ats, offsets, d, from, to)
+}
