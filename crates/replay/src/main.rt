@@ -8,25 +8,28 @@ use cases::report;
 use lend::Reply;
 use lend::refused;
 use point::point_answer;
+use timeline::window_answer;
 use wire::Placed;
 use wire::unplace;
 
-// A record has a kind, the entry that was asked, and ten numbers: the reply's number and length, the lengths of the book and of the room, 1
-// for a book of zeros, and the query's. The book's bytes follow, none of zeros, and then the answer's.
-const POINT: u8 = 1;
+// A record has a kind, the entry that was asked, 1 for a point and 2 for a window, and ten numbers: the reply's number and length, the
+// lengths of the book and of the room, 1 for a book of zeros, and the query's. The book's bytes follow, none of zeros, and then the answer's.
+const WINDOW: u8 = 2;
 
 const HEAD: usize = 81;
 
-// Counts stand at the reply's number, plus 1; then known points, unknown ones, refusals, and what is no record.
+// Counts stand at the reply's number, plus 1; then known points, unknown ones, windows, points refused, and what is no record.
 const KNOWN: u8 = 18;
 
 const UNKNOWN: u8 = 19;
 
-const NO_ANSWER: u8 = 20;
+const WINDOWS: u8 = 20;
 
-const STRANGE: u8 = 21;
+const NO_ANSWER: u8 = 21;
 
-const PLACES: usize = 22;
+const STRANGE: u8 = 22;
+
+const PLACES: usize = 23;
 
 const ZERO: u64 = 0x8000_0000_0000_0000;
 
@@ -40,6 +43,13 @@ const AS_IT_WAS: u8 = 0xa5;
 
 // No number of the list's: the list lends more than there is.
 const NO_SUCH_ROOM: u32 = 1000;
+
+// A point's instant, or a window's start and end.
+struct Query {
+    entry: u8,
+    start: i64,
+    end: i64,
+}
 
 // A number of the list, none above 2^32.
 fn count(p: Placed) -> usize
@@ -89,18 +99,21 @@ fn is_as_it_was(out: &[u8; LENT], from: usize) -> bool {
     true
 }
 
-// Asks for a point with the front of these bytes as the room.
-fn asked(book: &[u8], at: i64, out: &mut [u8], room: usize) -> Reply {
+// Asks with the front of these bytes as the room.
+fn asked(book: &[u8], q: Query, out: &mut [u8], room: usize) -> Reply {
     if out.len() < room {
         return refused(NO_SUCH_ROOM);
     }
-    point_answer(book, at, &mut out[..room])
+    if q.entry == WINDOW {
+        return window_answer(book, q.start, q.end, &mut out[..room]);
+    }
+    point_answer(book, q.start, &mut out[..room])
 }
 
-// Whether a point query gets this number and this answer, and nothing else is written.
-fn is_answered(book: &[u8], at: i64, room: usize, expected: usize, answer: &[u8]) -> bool {
+// Whether a query gets this number and this answer, and nothing else is written.
+fn is_answered(book: &[u8], q: Query, room: usize, expected: usize, answer: &[u8]) -> bool {
     let mut out = [AS_IT_WAS; LENT];
-    let reply = asked(book, at, &mut out, room);
+    let reply = asked(book, q, &mut out, room);
     (reply.number as usize == expected)
         & (reply.length == answer.len())
         & begins(&out, answer)
@@ -111,7 +124,7 @@ fn is_answered(book: &[u8], at: i64, room: usize, expected: usize, answer: &[u8]
 fn is_part_answered(
     bytes: &[u8],
     length: usize,
-    at: i64,
+    q: Query,
     room: usize,
     expected: usize,
     answer: &[u8],
@@ -119,16 +132,19 @@ fn is_part_answered(
     if bytes.len() < length {
         return false;
     }
-    is_answered(&bytes[..length], at, room, expected, answer)
+    is_answered(&bytes[..length], q, room, expected, answer)
 }
 
-fn is_zeros_answered(length: usize, at: i64, room: usize, expected: usize, answer: &[u8]) -> bool {
+fn is_zeros_answered(length: usize, q: Query, room: usize, expected: usize, answer: &[u8]) -> bool {
     let zeros = [0u8; LONGEST];
-    is_part_answered(&zeros, length, at, room, expected, answer)
+    is_part_answered(&zeros, length, q, room, expected, answer)
 }
 
-// Where an answer of this kind is counted.
-fn kind_place(answer: &[u8]) -> u8 {
+// Where a window, or a point's answer of this kind, is counted.
+fn kind_place(entry: u8, answer: &[u8]) -> u8 {
+    if entry == WINDOW {
+        return WINDOWS;
+    }
     if answer.len() < 4 {
         return NO_ANSWER;
     }
@@ -139,15 +155,23 @@ fn kind_place(answer: &[u8]) -> u8 {
     }
 }
 
-// A point query of a book of zeros. It answers how many bytes the record has.
-fn compare_zeros(list: &[u8], counts: &mut [u64]) -> usize
+// What a record asks.
+fn query_of(list: &[u8], entry: u8) -> Query {
+    Query {
+        entry,
+        start: unplace(number(list, 0, 5)),
+        end: unplace(number(list, 0, 6)),
+    }
+}
+
+// A query of a book of zeros. It answers how many bytes the record has.
+fn compare_zeros(list: &[u8], entry: u8, counts: &mut [u64]) -> usize
     ensures { λ r. ⌜ (1 ≤ r) × (r ≤ 8589934671) ⌝ }
 {
     let expected = count(number(list, 0, 0));
     let to = HEAD + count(number(list, 0, 1));
     let length = count(number(list, 0, 2));
     let room = count(number(list, 0, 3));
-    let at = unplace(number(list, 0, 5));
     if list.len() < to {
         met(counts, STRANGE, true);
         return 1;
@@ -156,21 +180,20 @@ fn compare_zeros(list: &[u8], counts: &mut [u64]) -> usize
     met(
         counts,
         place(expected),
-        is_zeros_answered(length, at, room, expected, answer),
+        is_zeros_answered(length, query_of(list, entry), room, expected, answer),
     );
-    met(counts, kind_place(answer), true);
+    met(counts, kind_place(entry, answer), true);
     to
 }
 
-// A point query of a book that the record holds.
-fn compare_book(list: &[u8], counts: &mut [u64]) -> usize
+// A query of a book that the record holds.
+fn compare_book(list: &[u8], entry: u8, counts: &mut [u64]) -> usize
     ensures { λ r. ⌜ (1 ≤ r) × (r ≤ 8589934671) ⌝ }
 {
     let expected = count(number(list, 0, 0));
     let from = HEAD + count(number(list, 0, 2));
     let to = from + count(number(list, 0, 1));
     let room = count(number(list, 0, 3));
-    let at = unplace(number(list, 0, 5));
     if list.len() < to {
         met(counts, STRANGE, true);
         return 1;
@@ -179,9 +202,15 @@ fn compare_book(list: &[u8], counts: &mut [u64]) -> usize
     met(
         counts,
         place(expected),
-        is_answered(&list[HEAD..from], at, room, expected, answer),
+        is_answered(
+            &list[HEAD..from],
+            query_of(list, entry),
+            room,
+            expected,
+            answer,
+        ),
     );
-    met(counts, kind_place(answer), true);
+    met(counts, kind_place(entry, answer), true);
     to
 }
 
@@ -192,14 +221,14 @@ fn compare(list: &[u8], kind: u8, counts: &mut [u64]) -> usize
     if kind == 0 {
         return 1;
     }
-    if kind != POINT {
+    if WINDOW < kind {
         met(counts, STRANGE, true);
         return 1;
     }
     if 0 < count(number(list, 0, 4)) {
-        return compare_zeros(list, counts);
+        return compare_zeros(list, kind, counts);
     }
-    compare_book(list, counts)
+    compare_book(list, kind, counts)
 }
 
 fn all_records(list: &[u8], counts: &mut [u64]) {
@@ -228,6 +257,7 @@ fn told_low(counts: &[u64]) {
     report(b"answered ", counts, 1);
     report(b"known points ", counts, KNOWN);
     report(b"unknown points ", counts, UNKNOWN);
+    report(b"windows ", counts, WINDOWS);
     report(b"refused by 1 ", counts, 2);
     report(b"refused by 2 ", counts, 3);
     report(b"refused by 3 ", counts, 4);
@@ -241,6 +271,8 @@ fn told_high(counts: &[u64]) {
     report(b"refused by 8 ", counts, 9);
     report(b"refused by 9 ", counts, 10);
     report(b"refused by 10 ", counts, 11);
+    report(b"refused by 11 ", counts, 12);
+    report(b"refused by 12 ", counts, 13);
     report(b"refused by 16 ", counts, 17);
     report(b"differences ", counts, 0);
     report(b"bytes of the list not understood ", counts, STRANGE);

@@ -362,7 +362,8 @@ impl Venue {
         self.timeline(start, end).tiles_interval()
     }
 
-    fn window(&self, start: i64, end: i64) -> Vec<Answer> {
+    /// The Rust's segments of a window, each phase with its events behind it.
+    pub fn window(&self, start: i64, end: i64) -> Vec<Answer> {
         let mut out = Vec::new();
         for segment in self.timeline(start, end).segments {
             match segment {

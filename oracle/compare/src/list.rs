@@ -16,6 +16,9 @@ const BOOK: usize = 700;
 const ANSWER: usize = 1_500;
 const LONG_BOOK: usize = 25_000;
 const LONG_BOOKS: usize = 1;
+/// A window's answer may be longer. The program lends at most so much room.
+const ANSWER_OF_A_WINDOW: usize = 4_000;
+const LENT: usize = 16_384;
 /// So that the list has many books.
 const CASES_OF_A_BOOK: u64 = 6;
 
@@ -99,10 +102,30 @@ impl List {
         }
     }
 
-    pub fn write(&self, file: &str) {
-        std::fs::write(file, &self.bytes).expect("the list written");
+    /// The same of a window.
+    pub fn offer_window(&mut self, case: &Case, met: &Counts) {
+        let short =
+            case.book.len() <= BOOK && case.answer.len() <= ANSWER_OF_A_WINDOW && case.room <= LENT;
+        if short && self.of_book < CASES_OF_A_BOOK && self.held.lacks(met, |_| 10) {
+            self.held.join(met);
+            self.push(case);
+        }
+    }
+
+    /// Another list's cases behind these, from the next block on.
+    pub fn append(&mut self, other: &Self) {
+        let blocks = self.bytes.len().div_ceil(BLOCK);
+        self.bytes.resize(blocks * BLOCK, 0);
+        self.bytes.extend(&other.bytes);
+    }
+
+    pub fn print(&self) {
         self.held.print();
         println!("cases {}", self.cases);
         println!("bytes {}", self.bytes.len());
+    }
+
+    pub fn write(&self, file: &str) {
+        std::fs::write(file, &self.bytes).expect("the list written");
     }
 }

@@ -3,6 +3,7 @@
 //!     compare points --seed S --books N [--from I] [--long]
 //!     compare windows --seed S --books N [--from I] [--long]
 //!     compare plain --seed S --books N [--from I] [--long]
+//!     compare listing --seed S --books N [--from I] -- PROGRAM WORDS..
 //!     compare places
 //!     compare list --seed S --books N FILE
 //!     compare zones --seed S --books N
@@ -21,6 +22,7 @@ mod given;
 mod judge;
 mod lacking;
 mod list;
+mod listing;
 mod make;
 mod places;
 mod plain;
@@ -45,6 +47,7 @@ struct Arguments {
     books: u64,
     long: bool,
     file: Option<String>,
+    program: Vec<String>,
 }
 
 fn arguments() -> Option<Arguments> {
@@ -56,6 +59,7 @@ fn arguments() -> Option<Arguments> {
         books: 1000,
         long: false,
         file: None,
+        program: Vec::new(),
     };
     while let Some(word) = words.next() {
         match word.as_str() {
@@ -63,6 +67,7 @@ fn arguments() -> Option<Arguments> {
             "--from" => made.from = words.next()?.parse().ok()?,
             "--books" => made.books = words.next()?.parse().ok()?,
             "--long" => made.long = true,
+            "--" => made.program = words.by_ref().collect(),
             _ if word.starts_with("--") => return None,
             _ => made.file = Some(word),
         }
@@ -302,13 +307,14 @@ fn window(
     (start, end): (i64, i64),
     random: &mut Random,
     counts: &mut Counts,
-) {
+) -> Asked {
     let query = Query::Window { start, end };
     let asked = compare(place, book, opened, &query, random, counts);
     counts.windows += 1;
     if let (Ok(venue), 0) = (opened, asked.number) {
         counts.window(venue, start, end, &asked.answer);
     }
+    asked
 }
 
 fn run_windows(arguments: &Arguments) {
@@ -409,19 +415,71 @@ fn run_list(arguments: &Arguments, file: &str) {
             );
         }
     }
+    list.print();
+    let windows = list_of_windows(arguments);
+    windows.print();
+    list.append(&windows);
     list.write(file);
+}
+
+/// The windows of the list: of as many books as give each situation its share.
+fn list_of_windows(arguments: &Arguments) -> List {
+    let mut list = List::default();
+    for book in arguments.from..arguments.from + arguments.books.min(600) {
+        let place = Place {
+            seed: arguments.seed,
+            book,
+        };
+        let mut random = Random::new(arguments.seed, book);
+        for asking in books_and_windows(&mut random) {
+            let Asking {
+                bytes,
+                opened,
+                windows,
+            } = &asking;
+            if opened
+                .as_ref()
+                .is_ok_and(|venue| !venue.strange_codes.is_empty())
+            {
+                continue;
+            }
+            list.next_book();
+            for &(start, end) in windows {
+                let mut counts = Counts::default();
+                let asked = window(place, bytes, opened, (start, end), &mut random, &mut counts);
+                list.offer_window(
+                    &Case {
+                        book: bytes,
+                        zeros: false,
+                        query: &Query::Window { start, end },
+                        room: asked.room,
+                        number: asked.number,
+                        answer: &asked.answer,
+                    },
+                    &counts,
+                );
+            }
+        }
+    }
+    list
 }
 
 fn main() {
     let Some(arguments) = arguments() else {
         eprintln!(
-            "usage: compare points|speed|windows|plain|places|list|zones [--seed S] [--from I] [--books N] [--long] [FILE]"
+            "usage: compare points|speed|windows|plain|listing|places|list|zones [--seed S] [--from I] [--books N] [--long] [FILE] [-- PROGRAM ..]"
         );
         exit(2);
     };
     match arguments.what.as_str() {
         "points" => run_points(&arguments),
         "windows" => run_windows(&arguments),
+        "listing" if !arguments.program.is_empty() => listing::run(
+            arguments.seed,
+            arguments.from,
+            arguments.books,
+            &arguments.program,
+        ),
         "places" => places::run(),
         "plain" => agree::run(
             arguments.seed,

@@ -5,6 +5,9 @@ use borrow.Author.Needs.{needs}
 use Rattle.replay.proofs.asked.Statement.{statement}
 use Rattle.replay.proofs.asked.Tie as tie
 
+slice-aggregate-window-answer : tie.Need-slice-aggregate-window-answer
+slice-aggregate-window-answer c = sym (length-take-le _ _ (omega arith))
+
 slice-aggregate-point-answer : tie.Need-slice-aggregate-point-answer
 slice-aggregate-point-answer c = sym (length-take-le _ _ (omega arith))
 
@@ -13,6 +16,11 @@ asked-spec =
     tie.close
     (tie.spec
     (λ c κs. search needs)
+    (λ c. search needs)
+    (λ c. search needs)
+    slice-aggregate-window-answer
+    (λ c κs. search needs)
+    (λ c. search needs)
     (λ c. search needs)
     (λ c. search needs)
     slice-aggregate-point-answer

@@ -1,0 +1,5 @@
+pub mod Writing
+pub mod Numbers
+pub mod Reading
+pub mod Bounds
+pub mod Asking

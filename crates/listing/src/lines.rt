@@ -1,0 +1,141 @@
+// The lines of the text. Each function writes from `at` on and answers the place behind what it wrote.
+ghost use Prim.Native.Nat.{_≤_, _*_};
+ghost use mathlib.Core.Path.{_≡_};
+ghost use mathlib.Core.List.{[], _∷_};
+ghost use lib.ListN.{length};
+ghost use Rattle.wire.specs.Fields.{Inside};
+ghost use Rattle.spans.specs.Spans.{phase, unknown};
+ghost use Rattle.rows.specs.Rows.{Here, segments, eventsFrom};
+ghost use Rattle.rows.specs.Telling.{Stands, spanAs};
+ghost use Rattle.listing.specs.Listing.{headLine, segmentLine, eventLine, eventLines, segmentLines, allLines};
+ghost use Rattle.listing.specs.Private.{Fits, Puts};
+use crate::text::put_byte;
+use crate::text::put_instant;
+use crate::text::put_number;
+use crate::text::put_word;
+use answer::EVENT_BYTES;
+use answer::PHASE_BYTES;
+use rows::Event;
+use rows::Read;
+use rows::Segment;
+use rows::Shows;
+use rows::event_at;
+use rows::read_at;
+use wire::Placed;
+
+pub(crate) fn put_head(out: &mut [u8], at: usize, number: u32, count: usize) -> usize
+    requires { ⌜ Fits at (headLine number count) (now out) ⌝ }
+    ensures { λ r. ⌜ Puts (now (out .entry)) at (headLine number count) (now (out .exit)) r ⌝ }
+{
+    let a = put_word(out, at, b"timeline");
+    let b = put_number(out, a, number as u64);
+    let c = put_number(out, b, count as u64);
+    put_byte(out, c, b'\n')
+}
+
+fn put_phase(out: &mut [u8], at: usize, from: Placed, to: Placed, p: u8, evidence: u16) -> usize
+    requires { ⌜ Fits at (segmentLine (from .0) (to .0) (phase p evidence)) (now out) ⌝ }
+    ensures { λ r. ⌜ Puts (now (out .entry)) at (segmentLine (from .0) (to .0) (phase p evidence)) (now (out .exit)) r ⌝ }
+{
+    let a = put_byte(out, at, b'P');
+    let b = put_instant(out, a, from);
+    let c = put_instant(out, b, to);
+    let d = put_number(out, c, p as u64);
+    let e = put_number(out, d, evidence as u64);
+    put_byte(out, e, b'\n')
+}
+
+fn put_unknown(out: &mut [u8], at: usize, from: Placed, to: Placed) -> usize
+    requires { ⌜ Fits at (segmentLine (from .0) (to .0) unknown) (now out) ⌝ }
+    ensures { λ r. ⌜ Puts (now (out .entry)) at (segmentLine (from .0) (to .0) unknown) (now (out .exit)) r ⌝ }
+{
+    let a = put_byte(out, at, b'U');
+    let b = put_instant(out, a, from);
+    let c = put_instant(out, b, to);
+    put_byte(out, c, b'\n')
+}
+
+fn put_event(out: &mut [u8], at: usize, when: Placed, code: u16) -> usize
+    requires { ⌜ Fits at (eventLine (record { at = when .0; code = code })) (now out) ⌝ }
+    ensures { λ r. ⌜ Puts (now (out .entry)) at (eventLine (record { at = when .0; code = code })) (now (out .exit)) r ⌝ }
+{
+    let a = put_byte(out, at, b'E');
+    let b = put_instant(out, a, when);
+    let c = put_number(out, b, code as u64);
+    put_byte(out, c, b'\n')
+}
+
+// The lines of n events, which stand in the answer from `first` on.
+fn put_events(answer: &[u8], first: usize, n: u32, out: &mut [u8], at: usize) -> usize
+    requires { ⌜ Inside first (35 * n) (now answer) × Fits at (eventLines (eventsFrom (now answer) first n)) (now out) ⌝ }
+    ensures { λ r. ⌜ Puts (now (out .entry)) at (eventLines (eventsFrom (now (answer .entry)) first n)) (now (out .exit)) r ⌝ }
+{
+    let mut place = at;
+    let mut from = first;
+    let mut left = n;
+    while 0 < left {
+        let e = event_at(answer, from);
+        let when = e.at;
+        place = put_event(out, place, when, e.code);
+        from += EVENT_BYTES;
+        left -= 1;
+    }
+    place
+}
+
+// A segment that stands in the answer at `from`, and its events below it.
+fn put_segment(answer: &[u8], from: usize, g: Segment, out: &mut [u8], at: usize) -> usize
+    requires { ⌜ Stands (now answer) from g × Fits at (segmentLines (spanAs (now answer) from g)) (now out) ⌝ }
+    ensures { λ r. ⌜ Puts (now (out .entry)) at (segmentLines (spanAs (now (answer .entry)) from g)) (now (out .exit)) r ⌝ }
+{
+    let start = g.from;
+    let end = g.to;
+    let shows = g.shows;
+    match shows {
+        Shows::Phase(phase, evidence, n) => {
+            let next = put_phase(out, at, start, end, phase, evidence);
+            put_events(answer, from + PHASE_BYTES, n, out, next)
+        }
+        Shows::Unknown => put_unknown(out, at, start, end),
+    }
+}
+
+// How many segments a row has.
+pub(crate) fn count(answer: &[u8]) -> usize
+    requires { ⌜ Here (now answer) 0 ⌝ }
+    ensures { λ r. ⌜ r ≡ length (segments (now (answer .entry))) ⌝ }
+{
+    let mut at: usize = 0;
+    let mut seen: usize = 0;
+    'row: loop {
+        match read_at(answer, at) {
+            Read::Seen(g) => {
+                seen += 1;
+                at = g.behind;
+            }
+            Read::End => break 'row,
+            Read::Mark(_, _) => break 'row,
+        }
+    }
+    seen
+}
+
+// The lines of all segments of a row.
+pub(crate) fn put_all(answer: &[u8], out: &mut [u8], at: usize) -> usize
+    requires { ⌜ Here (now answer) 0 × Fits at (allLines (segments (now answer))) (now out) ⌝ }
+    ensures { λ r. ⌜ Puts (now (out .entry)) at (allLines (segments (now (answer .entry)))) (now (out .exit)) r ⌝ }
+{
+    let mut from: usize = 0;
+    let mut place = at;
+    'row: loop {
+        match read_at(answer, from) {
+            Read::Seen(g) => {
+                place = put_segment(answer, from, g, out, place);
+                from = g.behind;
+            }
+            Read::End => break 'row,
+            Read::Mark(_, _) => break 'row,
+        }
+    }
+    place
+}
