@@ -1,23 +1,19 @@
 -- How many events a span can have. Assumes nothing.
-use mathlib.Core.Path.{_≡_, ap}
 use mathlib.Core.Bool.{Bool, true, false, cond, _&&_}
 use mathlib.Core.List.{List, [], _∷_, _++_, map}
-use Prim.Native.Nat.{ℕ, zero, suc, _+_, _-_, _*_, _/_, _≤_, _<_, min, max}
-use native.Mathlib.Nat.{not-suc-le-zero}
+use Prim.Native.Nat.{ℕ, zero, suc, _+_, _-_, _*_, _≤_, _<_}
 use native.Mathlib.Omega.{arith}
 use lib.Dec.{leb}
 use lib.ListN.{length, getD, length-append, length-map}
-use Rattle.zone.specs.Zone.{Zone, zoneOf, offsetAt, dateAt}
-use Rattle.zone.specs.Units.{dayNs, mostNs, mostOffset, offsetNs, nearestInstant}
+use Rattle.zone.specs.Zone.{Zone, zoneOf, dateAt}
+use Rattle.zone.specs.Units.{dayNs, mostNs, nearestInstant}
 use Rattle.zone.specs.Answers.{Valid}
 use Rattle.zone.proofs.Offsets.{offset-most}
-use Rattle.records.specs.Limits.{base}
 use Rattle.records.specs.Records.{Event, eventAt}
 use Rattle.venue.specs.Opening.{dayOf}
 use Rattle.venue.specs.Reading.{Listed, AllListed}
 use Rattle.venue.proofs.Laws.{good-event}
 use Rattle.events.specs.Happenings.{happens, occurrence, onTimes, onDate, onDates, found}
-use Rattle.events.specs.declared.Occurrence.{Occurrence}
 
 -- each has at most 8 times
 abbrev FewTimes : List Event → Type 0

@@ -19,8 +19,7 @@ use Rattle.day.specs.Days.{valuesOf}
 use Rattle.query.specs.Judging.{windowRefusal}
 use Rattle.rows.specs.Rows as Rows
 use Rattle.timeline.specs.Segments.{segments, timelineOf}
-use Rattle.timeline.specs.Asking.{windowNumber, windowAnswer}
-use Rattle.timeline.proofs.Shape.{segmentsBy}
+use Rattle.timeline.specs.Asking.{segmentsBy, windowNumber, windowAnswer}
 use Rattle.timeline.proofs.Seen.{row-look}
 use Rattle.point.specs.Asking.{pointNumber, pointAnswer}
 use Rattle.point.specs.Said.{pointSaid}

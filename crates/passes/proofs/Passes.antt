@@ -17,7 +17,7 @@ use Rattle.answer.specs.Forms.{Form, phase, encode, encodeAll, allFields}
 use Rattle.answer.specs.Meaning.{phaseOf}
 use Rattle.answer.specs.declared.Phase.{Phase}
 use Rattle.answer.proofs.Several.{encode-append}
-use Rattle.tell.specs.Shown.{Shown, headOf, headForm, eventForm, shownForms}
+use Rattle.tell.specs.Shown.{Shown, headOf, eventForm}
 use Rattle.tell.proofs.Trailing.{events-length}
 use Rattle.passes.specs.Joining.{phases}
 use Rattle.passes.specs.Walked.{phaseForms}

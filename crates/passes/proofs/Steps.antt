@@ -8,11 +8,10 @@ use native.Mathlib.Omega.{arith}
 use lib.Dec.{ltb}
 use lib.ListN.{length, length-map}
 use Rattle.zone.specs.Zone.{Zone, zoneOf}
-use Rattle.records.specs.Limits.{base}
 use Rattle.records.specs.Records.{Rule, Event, ruleAt, eventAt}
 use Rattle.venue.specs.Filled.{Ready}
 use Rattle.spans.specs.Spans.{Span, joined}
-use Rattle.spans.specs.Timeline.{Edge, Venue, walk, turns}
+use Rattle.spans.specs.Timeline.{Edge}
 use Rattle.day.specs.Governing.{governing}
 use Rattle.day.specs.Days.{Held, venueBy}
 use Rattle.wire.specs.Fields.{wrote, Put}

@@ -2,7 +2,7 @@
 use mathlib.Core.Path.{_≡_, refl, sym, ap, _∙_, subst}
 use mathlib.Core.List.{List, [], _∷_, _++_, map}
 use mathlib.Core.Option.{Option, none, some}
-use mathlib.Core.Bool.{Bool, true, cond}
+use mathlib.Core.Bool.{true}
 use Prim.Native.Nat.{ℕ, _+_, _*_, _^_, _≤_, _<_}
 use native.Mathlib.Omega.{arith}
 use borrow.Author.Tests.{leb-true}
@@ -40,8 +40,8 @@ use Rattle.rows.specs.Rows.{goodRow}
 use Rattle.rows.specs.Written.{instant, Tagged, GoodPhase, GoodGap, GoodEvent, Owing, RowFrom}
 use Rattle.rows.proofs.Writing.{written}
 use Rattle.tell.specs.Shown.{Shown, headForm, eventForm}
-use Rattle.timeline.specs.Asking.{segmentForms, timelineForms, windowForms, windowAnswer}
-use Rattle.timeline.proofs.Shape.{segmentsBy, segmentsOf, statedCover, window-shape}
+use Rattle.timeline.specs.Asking.{segmentForms, timelineForms, segmentsBy, statedCover, segmentsOf, windowForms, windowAnswer}
+use Rattle.timeline.proofs.Shape.{window-shape}
 use Rattle.timeline.proofs.Bounds.{rowMost, Every, Bodies, bodies-keep, Used, Good, Shows, segments-good}
 
 -- ---- instants, placed
@@ -169,9 +169,8 @@ window-row s m n b z e =
     let o = coverageOf (records s) in
     let u = instant-used n (window-passed m n e .end-in) in
     let w : Part = record { start = instantOf m; end = instantOf n } in
-    subst (RowFrom 0) (sym (h .forms))
-    (segments-row (statedCover o) (cover-fits s z o refl) (instantOf n) rowMost u (omega arith) (instantOf m) 0 (segmentsOf s m n) (h .within)
-    (bodies-by s z b w o refl) (omega arith))
+    segments-row (statedCover o) (cover-fits s z o refl) (instantOf n) rowMost u (omega arith) (instantOf m) 0 (segmentsOf s m n) (h .within)
+    (bodies-by s z b w o refl) (omega arith)
 
 -- the bytes are a good row
 pub row-good : (s : List ℕ) (m n : ℤ) → Bytes s → refusal base s ≡ 0 → windowRefusal m n ≡ 0 → goodRow (windowAnswer s m n) ≡ true

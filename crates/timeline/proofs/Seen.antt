@@ -28,8 +28,8 @@ use Rattle.rows.specs.Written.{instant, eventsOf, seenOf}
 use Rattle.rows.proofs.Writing.{written}
 use Rattle.tell.specs.Shown.{Shown, eventForm}
 use Rattle.timeline.specs.Segments.{markOf, segments}
-use Rattle.timeline.specs.Asking.{segmentForms, timelineForms, windowForms, windowAnswer}
-use Rattle.timeline.proofs.Shape.{segmentsOf, statedCover, window-shape}
+use Rattle.timeline.specs.Asking.{segmentForms, timelineForms, statedCover, segmentsOf, windowForms, windowAnswer}
+use Rattle.timeline.proofs.Shape.{window-shape}
 use Rattle.timeline.proofs.Row.{number-placed, instant-of, window-row}
 
 -- ---- a segment as it is read
@@ -140,7 +140,7 @@ module _ (s : List ℕ) (m n : ℤ) (b : Bytes s) (a : refusal base s ≡ 0) (e 
   pub row-segments : Rows.segments (windowAnswer s m n) ≡ map seenSpan (segmentsOf s m n)
   unfolding windowAnswer
   row-segments =
-      written (windowForms s m n) (window-row s m n b a e) .1 ∙ ap seenOf (window-shape s m n a e .forms)
+      written (windowForms s m n) (window-row s m n b a e) .1
       ∙ forms-seen (statedCover (coverageOf (records s))) (segmentsOf s m n)
 
   -- they are not empty, in order, do not overlap and lie inside the window, and two that touch differ

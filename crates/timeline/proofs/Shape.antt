@@ -1,6 +1,6 @@
 -- Demand 3: for every accepted book and every accepted window, the answer's segments are not empty, in order, do not overlap and lie inside
 -- the window, and two that touch differ in phase or evidence. Assumes nothing.
-use mathlib.Core.Path.{_≡_, refl, sym, ap}
+use mathlib.Core.Path.{_≡_, refl}
 use mathlib.Core.Bool.{Bool, true, false, cond}
 use mathlib.Core.List.{List, [], _∷_}
 use mathlib.Core.Option.{Option, none, some}
@@ -19,34 +19,16 @@ use Rattle.spans.proofs.Shape.{unjoined-within, blank-shape}
 use Rattle.day.specs.Days.{valuesOf}
 use Rattle.query.specs.Judging.{windowRefusal}
 use Rattle.query.proofs.Order.{window-passed}
-use Rattle.answer.specs.Forms.{Cover}
 use Rattle.tell.specs.Shown.{Shown}
-use Rattle.timeline.specs.Segments.{segments, showing, timelineOf}
-use Rattle.timeline.specs.Asking.{timelineForms, byCoverage, windowForms}
+use Rattle.timeline.specs.Segments.{segments, showing}
+use Rattle.timeline.specs.Asking.{segmentsBy, segmentsOf}
 use Rattle.timeline.proofs.Parts.{merges}
 
--- the segments of an answer, and the coverage that it states
-abbrev pub segmentsBy : List Record → Part → Option Coverage → List (Span (Option Shown))
-segmentsBy rs w none = blank none w
-segmentsBy rs w (some c) = timelineOf (valuesOf rs c) w
-
-abbrev pub segmentsOf : List ℕ → ℤ → ℤ → List (Span (Option Shown))
-segmentsOf s m n = segmentsBy (records s) (record { start = instantOf m; end = instantOf n }) (coverageOf (records s))
-
-abbrev pub statedCover : Option Coverage → Option Cover
-statedCover none = none
-statedCover (some c) = some (record { start = c .start; end = c .end })
-
 pub record Shape (s : List ℕ) (m n : ℤ) : Type 0 where
-  pub forms : windowForms s m n ≡ timelineForms (statedCover (coverageOf (records s))) (segmentsOf s m n)
   pub within : Within (instantOf m) (instantOf n) (segmentsOf s m n)
   pub apart : Apart segments (segmentsOf s m n)
 
 module _ (rs : List Record) (w : Part) (h : w .start < w .end) where
-  forms-by : (o : Option Coverage) → byCoverage rs w o ≡ timelineForms (statedCover o) (segmentsBy rs w o)
-  forms-by none = refl
-  forms-by (some c) = refl
-
   within-by : (o : Option Coverage) → ((c : Coverage) → o ≡ some c → instantOf (c .start) < instantOf (c .end)) → Within (w .start) (w .end) (segmentsBy rs w o)
   unfolding timeline
   within-by none k = blank-shape segments none w refl h
@@ -76,7 +58,6 @@ window-shape s m n z e =
     let w : Part = record { start = instantOf m; end = instantOf n } in
     let h = window-passed m n e .order in
     record {
-      forms = forms-by rs w h (coverageOf rs);
       within = within-by rs w h (coverageOf rs) (λ c q. good-coverage s z c q .order);
       apart = apart-by rs w h (coverageOf rs);
     }

@@ -31,10 +31,20 @@ unfoldable pub timelineForms : Option Cover → List (Span (Option Shown)) → L
 timelineForms c [] = []
 timelineForms c (s ∷ ss) = segmentForms c (s .from) (s .to) (s .body) ++ timelineForms c ss
 
--- of a venue without data, and of one with coverage
+-- the segments of a window: of a venue without data, and of one with coverage
+abbrev pub segmentsBy : List Record → Part → Option Coverage → List (Span (Option Shown))
+segmentsBy rs w none = blank none w
+segmentsBy rs w (some c) = timelineOf (valuesOf rs c) w
+
+abbrev pub statedCover : Option Coverage → Option Cover
+statedCover none = none
+statedCover (some c) = some (record { start = c .start; end = c .end })
+
 abbrev pub byCoverage : List Record → Part → Option Coverage → List Form
-byCoverage rs w none = timelineForms none (blank none w)
-byCoverage rs w (some c) = timelineForms (some (record { start = c .start; end = c .end })) (timelineOf (valuesOf rs c) w)
+byCoverage rs w o = timelineForms (statedCover o) (segmentsBy rs w o)
+
+abbrev pub segmentsOf : List ℕ → ℤ → ℤ → List (Span (Option Shown))
+segmentsOf s start end = segmentsBy (records s) (record { start = instantOf start; end = instantOf end }) (coverageOf (records s))
 
 abbrev pub windowForms : List ℕ → ℤ → ℤ → List Form
 windowForms s start end = byCoverage (records s) (record { start = instantOf start; end = instantOf end }) (coverageOf (records s))

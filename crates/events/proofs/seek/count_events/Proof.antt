@@ -1,15 +1,9 @@
 use Rattle.events.proofs.Turns.{begun-count}
 use Rattle.events.proofs.Finding.{none-found}
-use Rattle.events.specs.Seeking.{begin}
-use Rattle.events.specs.declared.Occurrence.{Occurrence}
-use Rattle.events.specs.declared.Search.{Search}
-use Rattle.records.specs.Records.{eventAt}
 use Rattle.zone.specs.Zone.{zoneOf}
-use mathlib.Core.List.{List}
 use lib.ListN.{length}
 use native.Mathlib.Omega.{arith}
-use mathlib.Core.Path.{_≡_, sym, ap, _∙_}
-use borrow.Author.Needs.{needs}
+use mathlib.Core.Path.{sym, ap}
 use Rattle.events.proofs.seek.count_events.Statement.{statement}
 use Rattle.events.proofs.seek.count_events.Tie as tie
 

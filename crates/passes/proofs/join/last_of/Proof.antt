@@ -1,4 +1,3 @@
-use borrow.Author.Needs.{needs}
 use Rattle.passes.proofs.join.last_of.Statement.{statement}
 use Rattle.passes.proofs.join.last_of.Tie as tie
 

@@ -2,7 +2,7 @@ use Rattle.passes.proofs.Heads.{calm-head, span-head}
 use Rattle.venue.specs.Reading.{Listed}
 use Rattle.zone.specs.Zone.{zoneOf}
 use Prim.Native.Nat.{ℕ}
-use mathlib.Core.Path.{refl, sym, ap, _∙_, subst}
+use mathlib.Core.Path.{sym, subst}
 use borrow.Author.Needs.{needs}
 use Rattle.passes.proofs.put.head_of.Statement.{statement}
 use Rattle.passes.proofs.put.head_of.Tie as tie

@@ -1,16 +1,13 @@
 use Rattle.passes.proofs.Steps.{z, left, fewer, come, gone, last-held, joins-held, held-next, held-count, its-place, its-count, its-room, its-length, found-few, written, stands-on, fewer-on, written-on, begun-writing, walk-put}
 use borrow.Author.Needs.{needs}
-use mathlib.Core.Path.{_≡_, refl, sym, ap, ap₂, _∙_, subst}
-use Prim.Native.Nat.{ℕ, _+_, _*_, _-_, _/_, _≤_, _<_}
-use mathlib.Core.Bool.{true}
+use mathlib.Core.Path.{ap, _∙_}
+use Prim.Native.Nat.{_-_}
 use lib.ListN.{length}
 use native.Mathlib.Omega.{arith}
 use Rattle.answer.specs.declared.Phase.{Phase}
-use Rattle.spans.specs.Spans.{Span, joined}
+use Rattle.spans.specs.Spans.{joined}
 use Rattle.venue.proofs.Laws.{good-rule}
-use Rattle.walk.specs.declared.Walk.{Walk}
 use Rattle.walk.specs.Walking.{Stands}
-use Rattle.tell.specs.Shown.{Shown}
 use Rattle.passes.specs.Private.{openOf}
 use Rattle.passes.specs.Joining.{phases}
 use Rattle.passes.proofs.Passes.{bytesOf, Writing, write-hole}

@@ -1,4 +1,3 @@
-use borrow.Author.Needs.{needs}
 use mathlib.Core.Bool.{Bool, cond}
 use mathlib.Core.Path.{subst}
 use Prim.Native.Nat.{_+_, _<_}

@@ -1,20 +1,17 @@
-use Rattle.passes.proofs.Steps.{z, es, left, begun-spans, begun-few, sized, fewer, stands-on, fewer-on, sized-on, come, gone}
+use Rattle.passes.proofs.Steps.{z, left, begun-spans, begun-few, sized, fewer, stands-on, fewer-on, sized-on, come, gone}
 use borrow.Author.Needs.{needs}
-use mathlib.Core.Path.{_≡_, refl, sym, ap, ap₂, _∙_, subst}
-use Prim.Native.Nat.{ℕ, _+_, _*_, _≤_, _<_}
+use mathlib.Core.Path.{refl, sym, ap, _∙_}
 use mathlib.Core.List.{List}
 use lib.ListN.{length}
 use Rattle.answer.specs.Forms.{encodeAll}
 use Rattle.spans.specs.Spans.{Span, joined}
 use Rattle.venue.proofs.Laws.{good-rule}
-use Rattle.walk.specs.declared.Walk.{Walk}
 use Rattle.walk.specs.Walking.{Stands}
 use Rattle.tell.specs.Shown.{Shown}
 use Rattle.passes.specs.Joining.{phases}
 use Rattle.passes.specs.Walked.{phaseForms}
 use Rattle.passes.proofs.Passes.{bytesOf, Sizing, size-start, size-end}
 use native.Mathlib.Omega.{arith}
-use Rattle.passes.proofs.Steps.{z, es, left, begun-spans, begun-few, sized, fewer, come, gone}
 use Rattle.passes.proofs.size.walk_size.Statement.{statement}
 use Rattle.passes.proofs.size.walk_size.Tie as tie
 

@@ -3,7 +3,6 @@ use Rattle.walk.proofs.Filling.{Filling, filling-none, filling-next, fi
 use Rattle.zone.specs.Zone.{zoneOf}
 use Rattle.zone.specs.Answers.{boundaryAt}
 use Rattle.zone.specs.declared.Boundary.{Boundary}
-use Rattle.zone.specs.declared.Uncertainty.{Uncertainty}
 use Rattle.zone.specs.declared.Uncertainty.the-variants.{Exact}
 use Rattle.records.specs.Records.{ruleAt}
 use lib.ListN.{length-set}
