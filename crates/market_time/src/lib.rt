@@ -1,7 +1,15 @@
-// The boundary: what the dashboard's server links against, as C functions. Every entry takes every book, query and room.
+// The boundary: what the dashboard's server links against, as C functions. Every entry takes every book, row, query and room.
+ghost use mathlib.Core.Path.{_≡_};
+ghost use Rattle.board.specs.Cells.{cellsNumber, cellsAnswer};
+ghost use Rattle.board.specs.Classes.{classReply, countReply};
 ghost use Rattle.lend.specs.Lending.{Lent};
 ghost use Rattle.point.specs.Asking.{pointNumber, pointAnswer};
 ghost use Rattle.timeline.specs.Asking.{windowNumber, windowAnswer};
+use board::ClassReply;
+use board::CountReply;
+use board::cells_answer;
+use board::class_answer;
+use board::count_answer;
 use lend::Reply;
 use point::point_answer;
 use timeline::window_answer;
@@ -20,4 +28,37 @@ pub extern "C" fn market_time_window(book: &[u8], start: i64, end: i64, out: &mu
     ensures { λ r. ⌜ Lent (windowNumber (now (book .entry)) start end) (windowAnswer (now (book .entry)) start end) (now (out .entry)) (now (out .exit)) r ⌝ }
 {
     window_answer(book, start, end, out)
+}
+
+// A row's cells between brackets. `at`, the board's now, counts only where it is marked.
+#[no_mangle]
+pub extern "C" fn market_time_cells(
+    row: &[u8],
+    start: i64,
+    end: i64,
+    columns: i64,
+    marked: bool,
+    at: i64,
+    out: &mut [u8],
+) -> Reply
+    ensures { λ r. ⌜ Lent (cellsNumber (now (row .entry)) start end columns marked at) (cellsAnswer (now (row .entry)) start end columns marked at)
+        (now (out .entry)) (now (out .exit)) r ⌝ }
+{
+    cells_answer(row, start, end, columns, marked, at, out)
+}
+
+// What a row shows at an instant: its class.
+#[no_mangle]
+pub extern "C" fn market_time_class(row: &[u8], at: i64) -> ClassReply
+    ensures { λ r. ⌜ r ≡ classReply (now (row .entry)) at ⌝ }
+{
+    class_answer(row, at)
+}
+
+// How many rows, each behind its mark, are of each class at an instant.
+#[no_mangle]
+pub extern "C" fn market_time_count(rows: &[u8], at: i64) -> CountReply
+    ensures { λ r. ⌜ r ≡ countReply (now (rows .entry)) at ⌝ }
+{
+    count_answer(rows, at)
 }

@@ -1,0 +1,73 @@
+-- A row's class at an instant, and how many rows are of each class. Document 01, "Board". Assumes nothing.
+use Prim.Native.Nat.{ℕ, _+_}
+use mathlib.Core.Bool.{cond}
+use mathlib.Core.List.{List, [], _∷_}
+use mathlib.Core.Option.{Option, none, some}
+use lib.Dec.{eqb}
+use lib.IntN.{ℤ}
+use lib.ListN.{length}
+use mir.Syntax.{w64}
+use Rattle.wire.specs.Signs.{placed}
+use Rattle.records.specs.Book.{inside, instants, trading}
+use Rattle.spans.specs.Spans.{Mark, phase, unknown, Span, look}
+use Rattle.rows.specs.Rows.{Seen, Row, segments, rows, rowRefusal, rowsRefusal}
+use Rattle.board.specs.declared.Class.{Class}
+use Rattle.board.specs.declared.Class.the-variants.{Trading, NotTrading, NotKnown, NotShown}
+use Rattle.board.specs.declared.ClassReply.{ClassReply}
+use Rattle.board.specs.declared.CountReply.{CountReply}
+
+-- what the first segment that holds the instant shows
+abbrev pub shownAt : List (Span Seen) → ℕ → Option Mark
+shownAt ss t = look (λ (x : Seen). x .mark) ss t
+
+-- trading, not trading, not known, or not shown where no segment stands
+abbrev pub classOf : Option Mark → Class
+classOf none = NotShown
+classOf (some unknown) = NotKnown
+classOf (some (phase p e)) = cond (trading p) Trading NotTrading
+
+abbrev pub classAt : List (Span Seen) → ℕ → Class
+classAt ss t = classOf (shownAt ss t)
+
+-- the numbers that are handed over; 0 stands only beside a refusal
+abbrev pub classNumber : Class → ℕ
+classNumber Trading = 1
+classNumber NotTrading = 2
+classNumber NotKnown = 3
+classNumber NotShown = 4
+
+-- how many of the rows are of the class x
+abbrev pub one : Class → Class → ℕ
+one x y = cond (eqb (classNumber x) (classNumber y)) 1 0
+
+unfoldable pub numberOf : Class → List Row → ℕ → ℕ
+numberOf x [] t = 0
+numberOf x (r ∷ rs) t = one x (classAt (r .segments) t) + numberOf x rs t
+
+-- 10: the instant outside its range; 15: bad bytes
+abbrev pub classRefusal : List ℕ → ℤ → ℕ
+classRefusal row at = cond (inside instants at) (rowRefusal row) 10
+
+abbrev pub countRefusal : List ℕ → ℤ → ℕ
+countRefusal bytes at = cond (inside instants at) (rowsRefusal bytes) 10
+
+unfoldable pub classReply : List ℕ → ℤ → ClassReply
+classReply row at =
+    cond (eqb (classRefusal row at) 0) (record { number = 0; shown = classNumber (classAt (segments row) (placed w64 at)) })
+    (record { number = classRefusal row at; shown = 0 })
+
+-- each row is a venue; a row that shows nothing adds to nothing else
+abbrev pub counted : List Row → ℕ → CountReply
+counted rs t =
+    record {
+      number = 0;
+      venues = length rs;
+      trading = numberOf Trading rs t;
+      «not_trading» = numberOf NotTrading rs t;
+      «not_known» = numberOf NotKnown rs t;
+    }
+
+unfoldable pub countReply : List ℕ → ℤ → CountReply
+countReply bytes at =
+    cond (eqb (countRefusal bytes at) 0) (counted (rows bytes) (placed w64 at))
+    (record { number = countRefusal bytes at; venues = 0; trading = 0; «not_trading» = 0; «not_known» = 0 })

@@ -1,0 +1,4 @@
+pub mod Classes
+pub mod Cells
+pub mod Private
+pub mod Examples
