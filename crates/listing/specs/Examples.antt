@@ -10,7 +10,8 @@ use Rattle.wire.specs.Signs.{meant, placed, turned}
 use Rattle.zone.specs.Units.{secondNs}
 use Rattle.zone.specs.Zone.{lastOffset, resolve}
 use Rattle.records.specs.Records as Records
-use Rattle.records.specs.Records.{Record, Point, coverage, rule, body, encodeAll, pointsAt, timesAt}
+use Rattle.records.specs.Records.{body, encodeAll, pointsAt, timesAt}
+use Rattle.records.specs.Examples.{bookA}
 use Rattle.records.specs.Book.{badFrame, badFields, numberOf, numberAt, numberFrom, refusal, recordsFrom, records}
 use Rattle.venue.specs.Opening.{transitionsOf, rulesOf, eventsOf}
 use Rattle.spans.specs.Spans.{keep, clip, reach, joined, joinFrom}
@@ -62,30 +63,7 @@ pub nothing-known : listing (window (negsuc 11) (negsuc 0))
 unfolding listing listingNumber headLine allLines eventLines instant decimal digits field bytes laid placed meant windowNumber windowAnswer refusal numberFrom records recordsFrom windowRefusal keep timelineForms Forms.encode Forms.encodeAll segmentsFrom eventsFrom blank
 nothing-known = refl
 
--- Book A: covering 2026, offset 0; mask 31, 00:00 phase 0, 08:00 phase 3, 16:30 phase 0; mask 96, 00:00 phase 0
-abbrev yearly : ℕ → List Point → Record
-yearly m ps =
-    rule
-    (record {
-      first = pos 20454;
-      last = pos 20818;
-      code = 0;
-      mask = m;
-      label = 0;
-      evidence = 1;
-      derived = 0;
-      uncertainty = record { tag = 0; nanoseconds = pos 0; text = 0 };
-      points = ps;
-    })
-
-abbrev bookA : List Record
-bookA =
-    coverage (record { start = pos (1767225600 * secondNs); end = pos (1798761600 * secondNs); offset = pos 0 })
-    ∷ yearly 31 (record { time = 0; phase = 0 } ∷ record { time = 28800 * secondNs; phase = 3 } ∷ record { time = 59400 * secondNs; phase = 0 } ∷ [])
-    ∷ yearly 96 (record { time = 0; phase = 0 } ∷ [])
-    ∷ []
-
--- the document's text
+-- the document's text of Book A
 pub book-a : listing (window (pos (1767571200 * secondNs)) (pos (1767700800 * secondNs)) ++ encodeAll bookA)
     ≡ 116 ∷ 105 ∷ 109 ∷ 101 ∷ 108 ∷ 105 ∷ 110 ∷ 101 ∷ 32 ∷ 48 ∷ 32 ∷ 52 ∷ 10
     ∷ 80 ∷ 32 ∷ 49 ∷ 55 ∷ 54 ∷ 55 ∷ 53 ∷ 55 ∷ 49 ∷ 50 ∷ 48 ∷ 48 ∷ 48 ∷ 48 ∷ 48 ∷ 48 ∷ 48 ∷ 48 ∷ 48 ∷ 48 ∷ 48 ∷ 32 ∷ 49 ∷ 55 ∷ 54 ∷ 55 ∷ 54 ∷ 48 ∷ 48 ∷ 48 ∷ 48 ∷ 48 ∷ 48 ∷ 48 ∷ 48 ∷ 48 ∷ 48 ∷ 48 ∷ 48 ∷ 48 ∷ 48 ∷ 32 ∷ 48 ∷ 32 ∷ 49 ∷ 10
