@@ -54,6 +54,10 @@ market_time_reply market_time_point(const uint8_t *book, size_t book_len, int64_
 market_time_reply market_time_window(const uint8_t *book, size_t book_len, int64_t start, int64_t end,
                                      uint8_t *out, size_t out_len);
 
+/* Kinds 22 and one 23. */
+market_time_reply market_time_tally(const uint8_t *book, size_t book_len, int64_t start, int64_t end,
+                                    uint8_t *out, size_t out_len);
+
 /* The row's cells between brackets: kinds 16, 17 and 18 in, columns + 2 bytes out. Columns below 12, negative ones too,
  * become 12. `now` counts only where `marked`; where it does not it is not judged. */
 market_time_reply market_time_cells(const uint8_t *row, size_t row_len, int64_t start, int64_t end,

@@ -1,23 +1,25 @@
 -- One writer after another, from the last backwards, and the bits of an instant's number. Assumes nothing.
-use mathlib.Core.Path.{_≡_, refl, ap}
+use mathlib.Core.Path.{_≡_, refl, sym, ap, subst, _∙_}
 use mathlib.Core.Bool.{Bool, true, false}
-use mathlib.Core.List.{List, _++_, append-assoc, append-nil}
+use mathlib.Core.List.{List, [], _∷_, _++_, append-assoc, append-nil}
 use mathlib.Core.Option.{Option, none, some}
-use Prim.Native.Nat.{ℕ, _+_, _-_, _*_, _%_, _^_, _<_}
+use Prim.Native.Nat.{ℕ, zero, suc, _+_, _-_, _*_, _%_, _^_, _≤_, _<_}
 use native.Mathlib.Omega.{arith}
 use borrow.Author.Tests.{ltb-true, ltb-false}
 use lib.Dec.{ltb}
 use lib.IntN.{ℤ}
-use lib.ListN.{length, take, drop, length-append, length-take, length-drop}
+use lib.ListN.{length, getD, take, drop, length-append, length-take, length-drop}
 use mir.Syntax.{w64}
 use mir.Val.{ofZ}
 use Rattle.wire.specs.Fields.{Inside, Put, bytes, wrote, Field, laid}
-use Rattle.wire.proofs.Writing.{also}
+use lib.Seq.{take-all}
+use Rattle.wire.proofs.Writing.{also, wrote-nothing}
 use Rattle.calendar.specs.Answers.{zeroDay}
 use Rattle.zone.specs.Units.{dayNs, instantNumber}
 use Rattle.zone.specs.Answers.{Values}
 use Rattle.records.specs.Layout.{Place, kind}
-use Rattle.answer.specs.Forms.{Side, Cover, Phase, Event, Missing, Gap, phase, unknown, event, point, end, missingAt, coverFields, encode}
+use Rattle.answer.specs.Forms.{Side, Cover, Phase, Event, Missing, Gap, Totals, phase, unknown, event, point, day, tally, end, missingAt, coverFields, encode}
+use Rattle.answer.specs.Meaning.{totalsBytes}
 
 -- ---- one writer after another
 
@@ -98,3 +100,37 @@ nothing-bytes = simp append-nil
 pub between-bytes : (s e : ℤ) → bytes 1 1 ++ (signed8 s ++ signed8 e) ≡ laid (coverFields kind (some (record { start = s; end = e })))
 unfolding laid
 between-bytes s e = simp append-nil
+
+-- ---- totals
+
+pub day-bytes : (t : Totals) → encode (day t) ≡ head 98 22 ++ ((signed8 (t .start) ++ signed8 (t .end)) ++ totalsBytes (t .totals))
+unfolding encode laid
+day-bytes t = simp append-assoc
+
+pub tally-bytes : (t : Totals) → encode (tally t) ≡ head 98 23 ++ ((signed8 (t .start) ++ signed8 (t .end)) ++ totalsBytes (t .totals))
+unfolding encode laid
+tally-bytes t = simp append-assoc
+
+-- one total more
+pub one-more : (i : ℕ) (ts : List ℕ) → i < length ts → totalsBytes (take i ts) ++ bytes 8 (getD ts i 0) ≡ totalsBytes (take (suc i) ts)
+unfolding laid
+one-more i [] h = absurd (omega arith)
+one-more zero (t ∷ ts) h = sym (append-nil (bytes 8 t))
+one-more (suc i) (t ∷ ts) h = append-assoc (bytes 8 t) (totalsBytes (take i ts)) (bytes 8 (getD ts i 0)) ∙ ap (λ (l : List ℕ). bytes 8 t ++ l) (one-more i ts (omega arith))
+
+pub nothing-yet : (room : List ℕ) (at : ℕ) (ts : List ℕ) → Put room at (totalsBytes (take 0 ts)) (8 * 0) room at
+unfolding laid
+nothing-yet room at ts = record { same = sym (wrote-nothing room at); behind = omega arith; many = refl; kept = refl }
+
+module _ (ts : List ℕ) (i : ℕ) {room now : List ℕ} {at place : ℕ} (w : Put room at (totalsBytes (take i ts)) (8 * i) now place) where
+  pub next-room : at + 8 * length ts ≤ length room → i < length ts → Inside place 8 now
+  next-room h l = omega (arith, w .behind, w .kept)
+
+  pub next-put : {after : List ℕ} {next : ℕ} → at + 8 * length ts ≤ length room → i < length ts → Put now place (bytes 8 (getD ts i 0)) 8 after next
+      → Put room at (totalsBytes (take (i + 1) ts)) (8 * (i + 1)) after next
+  next-put h l y =
+      let e : i + 1 ≡ suc i = omega arith in
+      rw (e, ← (one-more i ts l)) (also (8 * suc i) w y (omega arith) (omega arith))
+
+  pub all-put : i ≡ length ts → Put room at (totalsBytes ts) (8 * length ts) now place
+  all-put e = let t = take-all i ts (omega arith) in rw (← e) (subst (λ (l : List ℕ). Put room at (totalsBytes l) (8 * i) now place) t w)

@@ -1,14 +1,15 @@
 -- Which values the code's answers mean, in document 01's numbers; and how long answers are. Assumes nothing.
 use Prim.Native.Nat.{ℕ, _+_}
-use mathlib.Core.List.{List}
+use mathlib.Core.List.{List, map}
 use mathlib.Core.Option.{Option, none, some}
 use Rattle.wire.specs.Fields.{laid}
 use Rattle.records.specs.Layout.{kind}
+use Rattle.records.specs.Records.{put}
 use Rattle.zone.specs.Units.{instantNumber}
 use Rattle.zone.specs.Answers.{values}
 use Rattle.zone.specs.declared.Boundary.{Boundary}
 use Rattle.answer.specs.Forms as Forms
-use Rattle.answer.specs.Forms.{Side, Cover, Form, coverFields, lengthOf}
+use Rattle.answer.specs.Forms.{Side, Cover, Form, coverFields, totalPlace, lengthOf}
 use Rattle.answer.specs.declared.Phase.{Phase}
 use Rattle.answer.specs.declared.Covered.{Covered}
 use Rattle.answer.specs.declared.Covered.the-variants.{Nothing, Between}
@@ -48,6 +49,13 @@ missingOf t c = record { at = instantNumber t; coverage = coverOf c }
 
 abbrev pub gapOf : ℕ → ℕ → Covered → Forms.Gap
 gapOf s e c = record { start = instantNumber s; end = instantNumber e; coverage = coverOf c }
+
+-- eight bytes for each total
+abbrev pub totalsBytes : List ℕ → List ℕ
+totalsBytes ts = laid (map (put totalPlace) ts)
+
+abbrev pub totalsOf : ℕ → ℕ → List ℕ → Forms.Totals
+totalsOf s e ts = record { start = instantNumber s; end = instantNumber e; totals = ts }
 
 -- bytes of a record: its length's two, and the length
 abbrev pub bytesOf : Form → ℕ

@@ -1,10 +1,12 @@
 // Answers, written into lent room. Instants and uncertainties are written as document 01's signed numbers.
 mod put;
 
+pub use put::put_day;
 pub use put::put_event;
 pub use put::put_gap;
 pub use put::put_missing;
 pub use put::put_phase;
+pub use put::put_tally;
 use zone::Boundary;
 use zone::Instant;
 use zone::Uncertainty;
@@ -17,6 +19,9 @@ pub const EVENT_BYTES: usize = 35;
 pub const GAP_BYTES: usize = 37;
 
 pub const MISSING_BYTES: usize = 29;
+
+// A day row or a closing total.
+pub const ROW_BYTES: usize = 100;
 
 // A phase answer: its span, its rule's numbers, its boundaries, its whole uncertainty and how many events follow.
 pub struct Phase {

@@ -1,13 +1,15 @@
 // One writer for each record. Each answers the place behind what it wrote.
 ghost use mathlib.Core.Path.{_≡_};
+ghost use Prim.Native.Nat.{_*_};
 ghost use mathlib.Core.List.{_++_};
+ghost use lib.ListN.{length};
 ghost use mir.Syntax.{w64};
 ghost use mir.Val.{ofZ};
 ghost use Rattle.wire.specs.Fields.{Inside, Put, bytes};
 ghost use Rattle.zone.specs.Units.{instantNumber};
 ghost use Rattle.zone.specs.Answers.{values, uncertaintyBytes};
-ghost use Rattle.answer.specs.Forms.{phase, unknown, event, point, encode};
-ghost use Rattle.answer.specs.Meaning.{phaseOf, eventOf, coverBytes, missingOf, gapOf};
+ghost use Rattle.answer.specs.Forms.{phase, unknown, event, point, day, tally, encode};
+ghost use Rattle.answer.specs.Meaning.{phaseOf, eventOf, coverBytes, missingOf, gapOf, totalsBytes, totalsOf};
 use crate::Covered;
 use crate::Phase;
 use wire::put1;
@@ -209,4 +211,45 @@ pub fn put_missing(out: &mut [u8], at: usize, t: Instant, c: Covered) -> usize
     let a = put_head(out, at, 27, 19);
     let b = put_instant(out, a, t);
     put_cover(out, b, c)
+}
+
+// Totals one behind the other.
+fn put_each(out: &mut [u8], at: usize, totals: &[u64]) -> usize
+    requires { ⌜ Inside at (8 * length (now totals)) (now out) ⌝ }
+    ensures { λ r. ⌜ Put (now (out .entry)) at (totalsBytes (now (totals .entry))) (8 * length (now (totals .entry))) (now (out .exit)) r ⌝ }
+{
+    let mut place = at;
+    let mut i: usize = 0;
+    while i < totals.len() {
+        place = put8(out, place, totals[i]);
+        i += 1;
+    }
+    place
+}
+
+// A row's edges and its totals, of which there are ten.
+fn put_row(out: &mut [u8], at: usize, start: Instant, end: Instant, totals: &[u64]) -> usize
+    requires { ⌜ (length (now totals) ≡ 10) × Inside at 96 (now out) ⌝ }
+    ensures { λ r. ⌜ Put (now (out .entry)) at ((bytes 8 (ofZ w64 (instantNumber (start .0))) ++ bytes 8 (ofZ w64 (instantNumber (end .0)))) ++ totalsBytes (now (totals .entry))) 96 (now (out .exit)) r ⌝ }
+{
+    let a = put_span(out, at, start, end);
+    put_each(out, a, totals)
+}
+
+// Kind 22.
+pub fn put_day(out: &mut [u8], at: usize, start: Instant, end: Instant, totals: &[u64]) -> usize
+    requires { ⌜ (length (now totals) ≡ 10) × Inside at 100 (now out) ⌝ }
+    ensures { λ r. ⌜ Put (now (out .entry)) at (encode (day (totalsOf (start .0) (end .0) (now (totals .entry))))) 100 (now (out .exit)) r ⌝ }
+{
+    let a = put_head(out, at, 98, 22);
+    put_row(out, a, start, end, totals)
+}
+
+// Kind 23.
+pub fn put_tally(out: &mut [u8], at: usize, start: Instant, end: Instant, totals: &[u64]) -> usize
+    requires { ⌜ (length (now totals) ≡ 10) × Inside at 100 (now out) ⌝ }
+    ensures { λ r. ⌜ Put (now (out .entry)) at (encode (tally (totalsOf (start .0) (end .0) (now (totals .entry))))) 100 (now (out .exit)) r ⌝ }
+{
+    let a = put_head(out, at, 98, 23);
+    put_row(out, a, start, end, totals)
 }

@@ -1,2 +1,3 @@
 pub mod Plain
 pub mod BookA
+pub mod Tally

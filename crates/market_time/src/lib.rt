@@ -5,6 +5,7 @@ ghost use Rattle.board.specs.Classes.{classReply, countReply};
 ghost use Rattle.lend.specs.Lending.{Lent};
 ghost use Rattle.point.specs.Asking.{pointNumber, pointAnswer};
 ghost use Rattle.timeline.specs.Asking.{windowNumber, windowAnswer};
+ghost use Rattle.tally.specs.Tallying.{tallyNumber, tallyAnswer};
 use board::ClassReply;
 use board::CountReply;
 use board::cells_answer;
@@ -12,6 +13,7 @@ use board::class_answer;
 use board::count_answer;
 use lend::Reply;
 use point::point_answer;
+use tally::tally_answer;
 use timeline::window_answer;
 
 // The phase at an instant: kind 16 with its 18s, or kind 19.
@@ -28,6 +30,14 @@ pub extern "C" fn market_time_window(book: &[u8], start: i64, end: i64, out: &mu
     ensures { λ r. ⌜ Lent (windowNumber (now (book .entry)) start end) (windowAnswer (now (book .entry)) start end) (now (out .entry)) (now (out .exit)) r ⌝ }
 {
     window_answer(book, start, end, out)
+}
+
+// The totals of a window: kind 22 for each day, then one 23.
+#[no_mangle]
+pub extern "C" fn market_time_tally(book: &[u8], start: i64, end: i64, out: &mut [u8]) -> Reply
+    ensures { λ r. ⌜ Lent (tallyNumber (now (book .entry)) start end) (tallyAnswer (now (book .entry)) start end) (now (out .entry)) (now (out .exit)) r ⌝ }
+{
+    tally_answer(book, start, end, out)
 }
 
 // A row's cells between brackets. `at`, the board's now, counts only where it is marked.

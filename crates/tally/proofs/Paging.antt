@@ -1,0 +1,364 @@
+-- The pages: rows that are written one after the other while stretches come. Assumes nothing.
+use mathlib.Core.Path.{_≡_, refl, sym, ap, subst, _∙_}
+use mathlib.Core.Bool.{Bool}
+use mathlib.Core.List.{List, [], _∷_, _++_, map, append-assoc, append-nil}
+use Prim.Native.Nat.{ℕ, zero, suc, _+_, _-_, _*_, _/_, _≤_, _<_, min, max}
+use native.Mathlib.Nat.{zero-add}
+use native.Mathlib.Omega.{arith}
+use borrow.Author.Tests.{lt-ltb, le-ltb}
+use lib.ListN.{length, getD, length-append}
+use Rattle.wire.specs.Fields.{Inside, Put}
+use Rattle.wire.proofs.Writing.{also, wrote-nothing}
+use Rattle.zone.specs.Units.{dayNs}
+use Rattle.spans.specs.Spans.{Mark, unknown, Span}
+use Rattle.spans.specs.Timeline.{Part}
+use Rattle.spans.specs.Totals.{anyMark, total}
+use Rattle.answer.specs.Forms.{Form, day, tally, encode, encodeAll}
+use Rattle.answer.specs.Meaning.{totalsOf}
+use Rattle.answer.proofs.Readback.{encode-length}
+use Rattle.answer.proofs.Several.{one-form, encode-append, append-length}
+use Rattle.tally.specs.Tallying.{rowEnd, rowsFrom, rowsOf, rowTotals, dayForm, mostNs}
+use Rattle.tally.specs.Private.{marks, stretchOf, kindAt, Slot, fresh, shifted, Filled, Ordered, dayForms, rawForms, Paged, Standing, Coming, Counted, Ending, Ended, First}
+use Rattle.tally.specs.declared.Page.{Page}
+use Rattle.tally.proofs.Counting.{small, one-none, ahead-none, slot-small, filled-fresh, filled-all, filled-one, takes, gets}
+
+-- ---- rows
+
+-- one row and those behind it
+pub rows-next : (n end at : ℕ) → at < end → end ≤ at + n * dayNs
+    → (m : ℕ) × (rowsFrom n end at ≡ record { start = at; end = rowEnd end at } ∷ rowsFrom m end (rowEnd end at)) × (end ≤ rowEnd end at + m * dayNs) × (suc m ≡ n)
+unfolding rowsFrom
+rows-next zero end at h e = absurd (omega arith)
+rows-next (suc m) end at h e = (m, simp (lt-ltb at end h), omega arith, refl)
+
+pub rows-none : (n end at : ℕ) → end ≤ at → rowsFrom n end at ≡ []
+unfolding rowsFrom
+rows-none zero end at h = refl
+rows-none (suc n) end at h = simp (le-ltb at end h)
+
+-- rows are counted
+pub record Cutting (start end count at : ℕ) : Type 0 where
+  pub fuel : ℕ
+  pub same : length (rowsOf start end) ≡ count + length (rowsFrom fuel end at)
+  pub enough : end ≤ at + fuel * dayNs
+  pub few : count + fuel ≤ 401
+
+pub cutting-none : (start end : ℕ) → end ≤ start + mostNs → Cutting start end 0 start
+cutting-none start end h = record { fuel = (end - start) / dayNs + 1; same = sym (zero-add (length (rowsOf start end))); enough = omega arith; few = omega arith }
+
+pub cutting-next : {start end count at : ℕ} → Cutting start end count at → at < end → {next : ℕ} → next ≡ rowEnd end at → Cutting start end (count + 1) next
+cutting-next {start} {end} {count} {at} c h {next} e =
+    let r = rows-next (c .fuel) end at h (c .enough) in
+    rw e (record { fuel = r .0; same = omega (arith, c .same, ap length (r .1)); enough = r .2; few = omega (arith, c .few, r .3) })
+
+pub cutting-end : {start end count at : ℕ} → Cutting start end count at → end ≤ at → (count ≡ length (rowsOf start end)) × (count ≤ 401)
+cutting-end {start} {end} {count} {at} c h = (omega (arith, c .same, ap length (rows-none (c .fuel) end at h)), omega (arith, c .few))
+
+-- ---- bytes
+
+row-long : (a b : ℕ) (all : List (Span Mark)) → length (encode (day (totalsOf a b (rowTotals marks a b all)))) ≡ 100
+row-long a b all = encode-length (day (totalsOf a b (rowTotals marks a b all))) refl
+
+closing-long : (a b : ℕ) (all : List (Span Mark)) → length (encodeAll (tally (totalsOf a b (rowTotals marks a b all)) ∷ [])) ≡ 100
+closing-long a b all = ap length (sym (one-form (tally (totalsOf a b (rowTotals marks a b all))))) ∙ encode-length (tally (totalsOf a b (rowTotals marks a b all))) refl
+
+days-long : (all : List (Span Mark)) (rs : List Part) → length (encodeAll (map (dayForm marks all) rs)) ≡ 100 * length rs
+unfolding encodeAll
+days-long all [] = refl
+days-long all (r ∷ rs) =
+    let f = dayForm marks all r in
+    let a = length-append (encode f) (encodeAll (map (dayForm marks all) rs)) in
+    let b = days-long all rs in
+    omega (arith, a, b, row-long (r .start) (r .end) all)
+
+-- how long an answer is
+pub forms-long : (all : List (Span Mark)) (start end : ℕ) → length (encodeAll (rawForms all start end)) ≡ 100 * (length (rowsOf start end) + 1)
+forms-long all start end =
+    let days = map (dayForm marks all) (rowsOf start end) in
+    let a = append-length days (tally (totalsOf start end (rowTotals marks start end all)) ∷ []) in
+    omega (arith, a, days-long all (rowsOf start end), closing-long start end all)
+
+-- ---- the page that is open
+
+module _ {all left : List (Span Mark)} {start end : ℕ} {room : List ℕ} {a b at : ℕ} {row now : List ℕ} (w : Paged all left start end room a b at row now) where
+  days-are : (m : ℕ) → rowsFrom (w .fuel) end a ≡ record { start = a; end = rowEnd end a } ∷ rowsFrom m end (rowEnd end a)
+      → dayForms all (w .fuel) end a ≡ dayForm marks all (record { start = a; end = b }) ∷ dayForms all m end b
+  days-are m e = let i = w .edge in rw i (ap (map (dayForm marks all)) e)
+
+  pub next-same : (m : ℕ) → rowsFrom (w .fuel) end a ≡ record { start = a; end = rowEnd end a } ∷ rowsFrom m end (rowEnd end a)
+      → map (dayForm marks all) (rowsOf start end) ≡ (w .done ++ (dayForm marks all (record { start = a; end = b }) ∷ [])) ++ dayForms all m end b
+  next-same m e =
+      w .same ∙ ap (λ (l : List Form). w .done ++ l) (days-are m e)
+      ∙ sym (append-assoc (w .done) (dayForm marks all (record { start = a; end = b }) ∷ []) (dayForms all m end b))
+
+  done-long : length (encodeAll (w .done)) ≡ at
+  done-long = w .put .many
+
+  -- there is room for its record, and for the closing total behind it
+  pub page-behind : at + 200 ≤ length now
+  page-behind =
+      let r = rows-next (w .fuel) end a (w .inside) (w .enough) in
+      let t = ap (λ (l : List Form). length (encodeAll l)) (next-same (r .0) (r .1)) in
+      let one = dayForm marks all (record { start = a; end = b }) in
+      let x = append-length (w .done ++ (one ∷ [])) (dayForms all (r .0) end b) in
+      let y = append-length (w .done) (one ∷ []) in
+      let o = ap length (one-form one) in
+      let l = append-length (map (dayForm marks all) (rowsOf start end)) (tally (totalsOf start end (rowTotals marks start end all)) ∷ []) in
+      omega (arith, t, x, y, o, row-long a b all, l, closing-long start end all, w .fits, w .put .kept, done-long)
+
+  pub page-inside : Inside at 100 now
+  page-inside = omega (arith, page-behind)
+
+  pub page-put : {now1 : List ℕ} {at1 : ℕ} → Put now at (encode (day (totalsOf a b (rowTotals marks a b all)))) 100 now1 at1
+      → Put room 0 (encodeAll (w .done ++ (dayForm marks all (record { start = a; end = b }) ∷ []))) at1 now1 at1
+  page-put {now1} {at1} y =
+      let one = dayForm marks all (record { start = a; end = b }) in
+      let e = encode-append (w .done) (one ∷ []) in
+      let o = one-form one in
+      rw (e, ← o) (also at1 (w .put) y (y .behind) (omega (arith, y .behind, page-behind, w .put .kept)))
+
+-- ---- a stretch comes
+
+module _ {all left : List (Span Mark)} {from to : ℕ} {m : Mark} {a b : ℕ} {row : List ℕ} (fits : (k : Mark → Bool) (x y : ℕ) → total marks k x y all ≤ y - x)
+    (w : Filled all (stretchOf from to m ∷ left) a b row) {j n : ℕ} (is : Slot m j) (e : n ≡ min b to - max a from) where
+  -- what counting it requires
+  pub shift-room : {most : ℕ} → b < most → (j < 9) × (n ≤ getD row 9 0) × (getD row j 0 + n < most)
+  shift-room h = (slot-small m is, omega (arith, takes fits w is), omega (arith, gets fits w is))
+
+  pub shift-one : {row′ : List ℕ} → row′ ≡ shifted row j n → Filled all left a b row′
+  shift-one f = filled-one fits w is e f
+
+module _ {all left : List (Span Mark)} {from to : ℕ} {m : Mark} {start end : ℕ} {room : List ℕ} {a b at : ℕ} {row now : List ℕ}
+    (w : Paged all (stretchOf from to m ∷ left) start end room a b at row now) {row1 : List ℕ} (f : Filled all left a b row1) where
+  -- it ends in this row
+  pub page-passed : to ≤ b → Paged all left start end room a b at row1 now
+  page-passed h =
+      record {
+        small = w .small;
+        ordered = w .ordered .2;
+        later = λ k x y i. sym (one-none k x y (stretchOf from to m) left (omega arith)) ∙ w .later k x y i;
+        filled = f;
+        edge = w .edge;
+        inside = w .inside;
+        done = w .done;
+        fuel = w .fuel;
+        enough = w .enough;
+        same = w .same;
+        put = w .put;
+        fits = w .fits;
+      }
+
+  -- the row ends first, and its record is next
+  module _ (h : b < to) where
+    row-is : row1 ≡ rowTotals marks a b all
+    row-is = filled-all (w .small) f (λ k. ahead-none k a b to left (omega arith) (w .ordered .1))
+
+    before-end : b < end
+    before-end = omega (arith, w .ordered .0)
+
+    next-edge : b < rowEnd end b
+    next-edge = omega (arith, before-end)
+
+    pub page-turns : (b < end) × (b < rowEnd end b)
+    page-turns = (before-end, next-edge)
+
+    pub page-room : (length row1 ≡ 10) × Inside at 100 now
+    page-room = (f .long, page-inside w)
+
+    pub page-next : {now1 row2 : List ℕ} {at1 b1 : ℕ} → Put now at (encode (day (totalsOf a b row1))) 100 now1 at1 → b1 ≡ rowEnd end b → row2 ≡ fresh (b1 - b)
+        → Paged all (stretchOf from to m ∷ left) start end room b b1 at1 row2 now1
+    page-next {now1} {row2} {at1} {b1} y e g =
+        let r = rows-next (w .fuel) end a (w .inside) (w .enough) in
+        record {
+          small = w .small;
+          ordered = w .ordered;
+          later = λ k x z i. w .later k x z (omega (arith, next-edge));
+          filled = rw g (filled-fresh (w .small) (λ k. w .later k b b1 (omega arith)));
+          edge = e;
+          inside = before-end;
+          done = w .done ++ (dayForm marks all (record { start = a; end = b }) ∷ []);
+          fuel = r .0;
+          enough = omega (arith, r .2, w .edge);
+          same = next-same w (r .0) (r .1);
+          put = page-put w (subst (λ (l : List ℕ). Put now at (encode (day (totalsOf a b l))) 100 now1 at1) row-is y);
+          fits = w .fits;
+        }
+
+-- ---- as the code goes
+
+-- rows are closed while one stretch lasts
+pub record Rolling (now : List ℕ) (a b at : ℕ) (row : List ℕ) (end from to slot : ℕ) (now′ : List ℕ) (a′ b′ at′ : ℕ) (row′ : List ℕ) : Type 0 where
+  pub on : (all left : List (Span Mark)) (start : ℕ) (room : List ℕ) (m : Mark) → Slot m slot → Paged all (stretchOf from to m ∷ left) start end room a b at row now
+      → Paged all (stretchOf from to m ∷ left) start end room a′ b′ at′ row′ now′
+  pub kept : length now′ ≡ length now
+
+pub rolling-none : (now : List ℕ) (a b at : ℕ) (row : List ℕ) (end from to slot : ℕ) → Rolling now a b at row end from to slot now a b at row
+rolling-none now a b at row end from to slot = record { on = λ all left start room m is w. w; kept = refl }
+
+module _ {now : List ℕ} {a b at : ℕ} {row : List ℕ} {end from to slot : ℕ} {now1 : List ℕ} {a1 b1 at1 : ℕ} {row1 : List ℕ}
+    (r : Rolling now a b at row end from to slot now1 a1 b1 at1 row1) {n : ℕ} (e : n ≡ min b1 to - max a1 from) {row2 : List ℕ} (f : row2 ≡ shifted row1 slot n) where
+  -- another row
+  pub rolling-next : b1 < to → {now2 row3 : List ℕ} {at2 b2 : ℕ} → Put now1 at1 (encode (day (totalsOf a1 b1 row2))) 100 now2 at2 → b2 ≡ rowEnd end b1 → row3 ≡ fresh (b2 - b1)
+      → Rolling now a b at row end from to slot now2 b1 b2 at2 row3
+  rolling-next h {now2} {row3} y i g =
+      record {
+        on = λ all left start room m is w. let v = r .on all left start room m is w in page-next v (shift-one (v .small) (v .filled) is e f) h y i g;
+        kept = y .kept ∙ r .kept;
+      }
+
+  -- the last one
+  pub rolling-end : to ≤ b1 → (all left : List (Span Mark)) (start : ℕ) (room : List ℕ) (m : Mark) → Slot m slot → Paged all (stretchOf from to m ∷ left) start end room a b at row now
+      → Paged all left start end room a1 b1 at1 row2 now1
+  rolling-end h all left start room m is w = let v = r .on all left start room m is w in page-passed v (shift-one (v .small) (v .filled) is e f) h
+
+-- the page of a stretch that comes
+module _ {now : List ℕ} {p : Page} {start end from to slot : ℕ} {row whole : List ℕ} (c : Coming now p start end from to slot row whole) where
+  pub coming-whole : {n : ℕ} → n ≡ min end to - max start from → end < 18446744073709551616 → (slot < 9) × (n ≤ getD whole 9 0) × (getD whole slot 0 + n < 18446744073709551616)
+  coming-whole e h = shift-room (c .stands .page .small) (c .stands .closing) (c .is) e h
+
+  module _ {now1 : List ℕ} {a1 b1 at1 : ℕ} {row1 : List ℕ} (r : Rolling now (p .start .0) (p .end .0) (p .at) row end from to slot now1 a1 b1 at1 row1) where
+    abbrev pub paged : Paged (c .all) (stretchOf from to (c .mark) ∷ c .left) start end (c .room) a1 b1 at1 row1 now1
+    paged = r .on (c .all) (c .left) start (c .room) (c .mark) (c .is) (c .stands .page)
+
+    module _ {n : ℕ} (e : n ≡ min b1 to - max a1 from) where
+      pub coming-row : end < 18446744073709551616 → (slot < 9) × (n ≤ getD row1 9 0) × (getD row1 slot 0 + n < 18446744073709551616)
+      coming-row h = shift-room (paged .small) (paged .filled) (c .is) e (omega (arith, paged .edge))
+
+      module _ {row2 : List ℕ} (f : row2 ≡ shifted row1 slot n) (h : b1 < to) where
+        pub coming-room : (length row2 ≡ 10) × Inside at1 100 now1
+        coming-room = page-room paged (shift-one (paged .small) (paged .filled) (c .is) e f) h
+
+        pub coming-turn : (b1 < end) × (b1 < rowEnd end b1)
+        coming-turn = page-turns paged (shift-one (paged .small) (paged .filled) (c .is) e f) h
+
+-- it is counted
+pub counted : {now : List ℕ} {p : Page} {start end from to slot : ℕ} {row whole now1 : List ℕ} {p1 : Page} {row1 whole1 : List ℕ}
+    → Rolling now (p .start .0) (p .end .0) (p .at) row end from to slot now1 (p1 .start .0) (p1 .end .0) (p1 .at) row1 → {n : ℕ} → n ≡ min (p1 .end .0) to - max (p1 .start .0) from
+    → {row2 : List ℕ} → row2 ≡ shifted row1 slot n → to ≤ p1 .end .0 → {l : ℕ} → l ≡ min end to - max start from → whole1 ≡ shifted whole slot l
+    → Counted now p start end from to slot row whole now1 p1 row2 whole1
+counted {start = start} r e f h i g =
+    record {
+      on = λ all left room m is w. record { page = rolling-end r e f h all left start room m is (w .page); closing = shift-one (w .page .small) (w .closing) is i g };
+      reached = h;
+      kept = r .kept;
+    }
+
+-- ---- the end
+
+-- an empty stretch at the end counts nothing
+none-at : (k : Mark → Bool) (x y end : ℕ) → total marks k x y (stretchOf end end unknown ∷ []) ≡ total marks k x y []
+none-at k x y end = one-none k x y (stretchOf end end unknown) [] (omega arith)
+
+module _ {all : List (Span Mark)} {start end : ℕ} {room now : List ℕ} {p : Page} {row whole : List ℕ} (w : Standing all [] start end room now p row whole) where
+  filled-more : {a b : ℕ} {r : List ℕ} → Filled all [] a b r → Filled all (stretchOf end end unknown ∷ []) a b r
+  filled-more {a} {b} f =
+      record {
+        long = f .long;
+        each = λ i h. omega (arith, f .each i h, none-at (kindAt i) a b end);
+        rest = omega (arith, f .rest, none-at anyMark a b end);
+      }
+
+  pub one-more : Standing all (stretchOf end end unknown ∷ []) start end room now p row whole
+  one-more =
+      record {
+        page =
+            record {
+              small = w .page .small;
+              ordered = (omega arith, tt, tt);
+              later = λ k x y i. none-at k x y end ∙ w .page .later k x y i;
+              filled = filled-more (w .page .filled);
+              edge = w .page .edge;
+              inside = w .page .inside;
+              done = w .page .done;
+              fuel = w .page .fuel;
+              enough = w .page .enough;
+              same = w .page .same;
+              put = w .page .put;
+              fits = w .page .fits;
+            };
+        closing = filled-more (w .closing);
+      }
+
+  module _ (h : end ≤ p .end .0) where
+    at-end : p .end .0 ≡ end
+    at-end = omega (arith, w .page .edge)
+
+    none-left : (k : Mark → Bool) (x y : ℕ) → total marks k x y [] ≡ 0
+    unfolding total
+    none-left k x y = refl
+
+    -- the last row and the closing total are written
+    pub all-written : {now1 now2 : List ℕ} {at1 at2 : ℕ} → Put now (p .at) (encode (day (totalsOf (p .start .0) (p .end .0) row))) 100 now1 at1
+        → Put now1 at1 (encode (tally (totalsOf start end whole))) 100 now2 at2 → Put room 0 (encodeAll (rawForms all start end)) at2 now2 at2
+    all-written {now1} {now2} {at1} {at2} x y =
+        let v = w .page in
+        let e = filled-all (v .small) (v .filled) (λ k. none-left k _ _) in
+        let f = filled-all (v .small) (w .closing) (λ k. none-left k _ _) in
+        let r = rows-next (v .fuel) end (p .start .0) (v .inside) (v .enough) in
+        let last = dayForm marks all (record { start = p .start .0; end = p .end .0 }) in
+        let days = page-put v (subst (λ (l : List ℕ). Put now (p .at) (encode (day (totalsOf (p .start .0) (p .end .0) l))) 100 now1 at1) e x) in
+        let none = rows-none (r .0) end (p .end .0) (omega arith) in
+        let same = next-same v (r .0) (r .1) ∙ ap (λ (l : List Part). (v .done ++ (last ∷ [])) ++ map (dayForm marks all) l) none ∙ append-nil (v .done ++ (last ∷ [])) in
+        let closing = tally (totalsOf start end (rowTotals marks start end all)) in
+        let z = subst (λ (l : List ℕ). Put now1 at1 (encode (tally (totalsOf start end l))) 100 now2 at2) f y in
+        let c = encode-append (map (dayForm marks all) (rowsOf start end)) (closing ∷ []) in
+        let o = one-form closing in
+        let g : Put room 0 (encodeAll (map (dayForm marks all) (rowsOf start end))) at1 now1 at1 = rw same days in
+        let b = page-behind v in
+        let k = w .page .put .kept in
+        rw (c, ← o) (also at2 g z (z .behind) (omega (arith, z .behind, x .behind, b, k)))
+
+-- ---- the start
+
+module _ (all : List (Span Mark)) {start end : ℕ} {room : List ℕ} (h : start < end) (ordered : Ordered end all) (fits : 100 * (length (rowsOf start end) + 1) ≤ length room) where
+  pub first-standing : {p : Page} {row whole : List ℕ} → First start end p row whole → Standing all all start end room room p row whole
+  unfolding encodeAll
+  first-standing {p} {row} {whole} f =
+      let i = f .begins in
+      let j = f .ends in
+      let k = f .placed in
+      let s = small end all ordered in
+      let x : Paged all all start end room start (rowEnd end start) 0 row room =
+      record {
+        small = s;
+        ordered = ordered;
+        later = λ k x y i. refl;
+        filled = rw (f .fresh-row) (filled-fresh s (λ k. refl));
+        edge = refl;
+        inside = h;
+        done = [];
+        fuel = (end - start) / dayNs + 1;
+        enough = omega arith;
+        same = refl;
+        put = record { same = sym (wrote-nothing room 0); behind = refl; many = refl; kept = refl };
+        fits = omega (arith, forms-long all start end);
+      }
+      in
+      record { page = rw (i, j, k) x; closing = rw (f .fresh-whole) (filled-fresh s (λ k. refl)) }
+
+-- ---- finishing, as the code goes
+
+pub unknown-slot : Slot unknown 8
+unknown-slot = record { is = refl; low = tt }
+
+pub ending-stretch : {now : List ℕ} {p : Page} {start end : ℕ} {row whole : List ℕ} → Ending now p start end row whole → Coming now p start end end end 8 row whole
+ending-stretch c = record { all = c .all; left = []; room = c .room; mark = unknown; is = unknown-slot; stands = one-more (c .stands) }
+
+module _ {now : List ℕ} {p : Page} {start end : ℕ} {row whole now1 : List ℕ} {p1 : Page} {row1 whole1 : List ℕ} (k : Counted now p start end end end 8 row whole now1 p1 row1 whole1) where
+  module _ (c : Ending now p start end row whole) where
+    abbrev last : Standing (c .all) [] start end (c .room) now1 p1 row1 whole1
+    last = k .on (c .all) [] (c .room) unknown unknown-slot (one-more (c .stands))
+
+    pub ending-day : (length row1 ≡ 10) × Inside (p1 .at) 100 now1
+    ending-day = (last .page .filled .long, page-inside (last .page))
+
+    pub ending-tally : {v now2 : List ℕ} {at2 : ℕ} → Put now1 (p1 .at) v 100 now2 at2 → (length whole1 ≡ 10) × Inside at2 100 now2
+    ending-tally x = (last .closing .long, omega (arith, x .behind, x .kept, page-behind (last .page)))
+
+  pub ended : {now2 now3 : List ℕ} {at2 at3 : ℕ} → Put now1 (p1 .at) (encode (day (totalsOf (p1 .start .0) (p1 .end .0) row1))) 100 now2 at2
+      → Put now2 at2 (encode (tally (totalsOf start end whole1))) 100 now3 at3 → Ended now p start end row whole now3 at3
+  ended x y =
+      record {
+        on = λ all room w. all-written (k .on all [] room unknown unknown-slot (one-more w)) (k .reached) x y;
+        kept = y .kept ∙ x .kept ∙ k .kept;
+      }

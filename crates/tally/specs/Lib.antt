@@ -1,0 +1,3 @@
+pub mod Tallying
+pub mod Private
+pub mod Examples

@@ -1,0 +1,104 @@
+// A row's totals, and how a stretch of the timeline is counted. A row's last total is what lies in no segment: the row begins with all of it
+// there, and each stretch takes its part away.
+ghost use Prim.Native.Nat.{_+_, _-_, _≤_, _<_, min, max};
+ghost use mathlib.Core.Path.{_≡_};
+ghost use lib.ListN.{getD};
+ghost use Rattle.tally.specs.Private.{shifted, fresh, Coming, Counted, Ending, Ended};
+use crate::Page;
+use crate::cuts::row_end;
+use answer::put_day;
+use answer::put_tally;
+use spans::earlier;
+use spans::later;
+use zone::Instant;
+
+pub const SLOTS: usize = 10;
+
+// Where what is unknown is counted, and what lies in no segment.
+pub const UNKNOWN: usize = 8;
+
+const NOWHERE: usize = 9;
+
+// How much of the row from a to before b lies from `from` to before `to`.
+fn part(a: u64, b: u64, from: u64, to: u64) -> u64
+    ensures { λ r. ⌜ r ≡ min b to - max a from ⌝ }
+{
+    let lo = later(a, from);
+    let hi = earlier(b, to);
+    if lo < hi { hi - lo } else { 0 }
+}
+
+// A row as it begins.
+pub fn renew(row: &mut [u64; SLOTS], length: u64)
+    ensures { λ r. ⌜ now (row .exit) ≡ fresh length ⌝ }
+{
+    *row = [0; SLOTS];
+    row[NOWHERE] = length;
+}
+
+// So much of it lies in segments of one kind.
+fn shift(row: &mut [u64; SLOTS], slot: usize, n: u64)
+    requires { ⌜ (slot < 9) × (n ≤ getD (now row) 9 0) × (getD (now row) slot 0 + n < 18446744073709551616) ⌝ }
+    ensures { λ r. ⌜ now (row .exit) ≡ shifted (now (row .entry)) slot n ⌝ }
+{
+    let more = row[slot] + n;
+    let less = row[NOWHERE] - n;
+    row[slot] = more;
+    row[NOWHERE] = less;
+}
+
+// Counts a stretch in the closing totals and in the rows that it meets. A row that ends inside the stretch or before it is written and the next begins.
+pub fn stretch(
+    out: &mut [u8],
+    page: Page,
+    start: Instant,
+    end: Instant,
+    from: Instant,
+    to: Instant,
+    slot: usize,
+    row: &mut [u64; SLOTS],
+    whole: &mut [u64; SLOTS],
+) -> Page
+    requires { ⌜ Coming (now out) page (start .0) (end .0) (from .0) (to .0) slot (now row) (now whole) ⌝ }
+    ensures { λ r. ⌜ Counted (now (out .entry)) page (start .0) (end .0) (from .0) (to .0) slot (now (row .entry)) (now (whole .entry)) (now (out .exit)) r (now (row .exit)) (now (whole .exit)) ⌝ }
+{
+    shift(whole, slot, part(start.0, end.0, from.0, to.0));
+    let mut a = page.start;
+    let mut b = page.end;
+    let mut at = page.at;
+    'rows: loop {
+        shift(row, slot, part(a.0, b.0, from.0, to.0));
+        if to.0 <= b.0 {
+            break 'rows;
+        }
+        at = put_day(out, at, a, b, row);
+        let next = row_end(end.0, b.0);
+        renew(row, next - b.0);
+        a = b;
+        b = Instant(next);
+    }
+    Page {
+        start: a,
+        end: b,
+        at,
+    }
+}
+
+// Closes the rows that are left, and writes the closing total. Answers the place behind it.
+pub fn finish(
+    out: &mut [u8],
+    page: Page,
+    start: Instant,
+    end: Instant,
+    row: &mut [u64; SLOTS],
+    whole: &mut [u64; SLOTS],
+) -> usize
+    requires { ⌜ Ending (now out) page (start .0) (end .0) (now row) (now whole) ⌝ }
+    ensures { λ r. ⌜ Ended (now (out .entry)) page (start .0) (end .0) (now (row .entry)) (now (whole .entry)) (now (out .exit)) r ⌝ }
+{
+    let last = stretch(out, page, start, end, end, end, UNKNOWN, row, whole);
+    let a = last.start;
+    let b = last.end;
+    let at = put_day(out, last.at, a, b, row);
+    put_tally(out, at, start, end, whole)
+}

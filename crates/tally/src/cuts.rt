@@ -1,0 +1,40 @@
+// The rows of a window.
+ghost use Prim.Native.Nat.{_+_, _*_, _≤_};
+ghost use mathlib.Core.Path.{_≡_};
+ghost use lib.ListN.{length};
+ghost use Rattle.tally.specs.Tallying.{rowEnd, rowsOf, mostNs};
+use answer::ROW_BYTES;
+
+pub const DAY_NS: u64 = 86_400_000_000_000;
+
+// The next row edge after `at`. Sizing and rows both ask here.
+pub fn row_end(end: u64, at: u64) -> u64
+    ensures { λ r. ⌜ r ≡ rowEnd end at ⌝ }
+{
+    if end < at {
+        return end;
+    }
+    if end - at < DAY_NS { end } else { at + DAY_NS }
+}
+
+// How many rows a window has.
+fn count_rows(start: u64, end: u64) -> usize
+    requires { ⌜ end ≤ start + mostNs ⌝ }
+    ensures { λ r. ⌜ (r ≡ length (rowsOf start end)) × (r ≤ 401) ⌝ }
+{
+    let mut count: usize = 0;
+    let mut at = start;
+    while at < end {
+        at = row_end(end, at);
+        count += 1;
+    }
+    count
+}
+
+// How many bytes its rows and the closing total take.
+pub fn tally_size(start: u64, end: u64) -> usize
+    requires { ⌜ end ≤ start + mostNs ⌝ }
+    ensures { λ r. ⌜ r ≡ 100 * (length (rowsOf start end) + 1) ⌝ }
+{
+    ROW_BYTES * (count_rows(start, end) + 1)
+}
