@@ -1,3 +1,4 @@
 pub mod Plain
 pub mod BookA
 pub mod Tally
+pub mod Cells

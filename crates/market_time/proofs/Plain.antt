@@ -33,7 +33,7 @@ shownAt bytes at = look (λ (x : Rows.Seen). x .mark) (Rows.segments bytes) (pla
 
 -- the book names a venue, whose coverage is c, and the window is answered
 module _ (s : List ℕ) (b : Bytes s) (c : Coverage) (named : Names s c) (start end : ℤ) (answered : windowNumber s start end ≡ 0) where
-  passes : windowRefusal start end ≡ 0
+  pub passes : windowRefusal start end ≡ 0
   unfolding windowNumber
   passes = sym (ap (λ (q : Bool). cond q (windowRefusal start end) (refusal base s)) (eq-eqb (refusal base s) 0 (named .accepted))) ∙ answered
 
