@@ -68,7 +68,11 @@ market_time_class_reply market_time_class(const uint8_t *row, size_t row_len, in
 
 /* How many rows, each behind its mark of kind 21, are of each class at an instant.
  * Off x86-64 (native code made for tests and benchmarks) the 40-byte result comes through a pointer that is the first
- * argument: declare `void market_time_count(market_time_count_reply *, ...)` there. */
+ * argument. */
+#if defined(__x86_64__)
 market_time_count_reply market_time_count(const uint8_t *rows, size_t rows_len, int64_t at);
+#else
+void market_time_count(market_time_count_reply *reply, const uint8_t *rows, size_t rows_len, int64_t at);
+#endif
 
 #endif

@@ -18,7 +18,14 @@ static void rule(uint8_t mask, int points, const uint64_t *minutes, const uint8_
     for (int i = 0; i < points; i++) put(minutes[i] * 60000000000ull, 8), put(phases[i], 1);
 }
 
-static uint64_t get(const uint8_t *at, int bytes) {
+/* Document 01's Book A. */
+static inline void book_a(void) {
+    put(22, 2), put(1, 2), put(1767225600000000000ull, 8), put(1798761600000000000ull, 8), put(0, 4);
+    rule(31, 3, (uint64_t[]){0, 480, 990}, (uint8_t[]){0, 3, 0});
+    rule(96, 1, (uint64_t[]){0}, (uint8_t[]){0});
+}
+
+static inline uint64_t get(const uint8_t *at, int bytes) {
     uint64_t value = 0;
     for (int i = bytes; i-- > 0;) value = value << 8 | at[i];
     return value;

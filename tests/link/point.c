@@ -17,9 +17,7 @@ static market_time_reply ask(size_t book_len, int64_t at, size_t out_len) {
 
 int main(void) {
     const int64_t s = 1000000000, t = 1767600000 * s;
-    put(22, 2), put(1, 2), put(1767225600ull * s, 8), put(1798761600ull * s, 8), put(0, 4);
-    rule(31, 3, (uint64_t[]){0, 480, 990}, (uint8_t[]){0, 3, 0});
-    rule(96, 1, (uint64_t[]){0}, (uint8_t[]){0});
+    book_a();
     size_t book_a = used;
     is("book A", book_a, 124);
 

@@ -12,9 +12,7 @@ static market_time_reply ask(size_t book_len, int64_t start, int64_t end, size_t
 
 int main(void) {
     const int64_t s = 1000000000, from = 1767571200 * s, to = 1767700800 * s;
-    put(22, 2), put(1, 2), put(1767225600ull * s, 8), put(1798761600ull * s, 8), put(0, 4);
-    rule(31, 3, (uint64_t[]){0, 480, 990}, (uint8_t[]){0, 3, 0});
-    rule(96, 1, (uint64_t[]){0}, (uint8_t[]){0});
+    book_a();
 
     /* document 01's example: closed, continuous, closed over midnight, continuous */
     const uint64_t edges[] = {1767571200, 1767600000, 1767630600, 1767686400, 1767700800};
