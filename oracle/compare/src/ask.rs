@@ -4,6 +4,7 @@ use crate::given::{Venue, date, instant, nanos, time};
 use crate::judge::{DAY, INSTANTS, SECOND};
 use crate::make::DAY_SECONDS;
 use crate::random::Random;
+use crate::tally;
 use market_time_core::{Uncertainty, civil, resolve};
 use std::collections::BTreeSet;
 
@@ -241,6 +242,35 @@ pub fn long_windows(random: &mut Random, venue: &Venue, wanted: usize) -> Vec<(i
             };
             let length = (days * DAY as i64 + random.from_to(-1, 1)).min(LONGEST_WINDOW);
             (start, start + length)
+        })
+        .collect()
+}
+
+/// A tally's length: whole days and 1 ns beside, 400 days and a little over; without `far_too` few answered ones are long.
+fn tally_length(random: &mut Random, far_too: bool) -> i64 {
+    let day = DAY as i64;
+    let beside = random.from_to(-1, 1);
+    let over = random.from_to(1, 20 * day);
+    match random.below(20) {
+        0 => 1,
+        1 => random.from_to(1, day),
+        2 => tally::LONGEST + 1,
+        3 => tally::LONGEST + over,
+        4 if far_too => tally::LONGEST,
+        5 if far_too => tally::LONGEST - over,
+        6 if far_too => day * random.from_to(40, 400) + beside.min(0),
+        7..10 => day * random.from_to(1, 40),
+        10..15 => day * random.from_to(1, 6),
+        _ => day * random.from_to(1, 6) + beside,
+    }
+}
+
+/// Windows for tallies: half of these get another length.
+pub fn tally_windows(random: &mut Random, of: &[(i64, i64)], far_too: bool) -> Vec<(i64, i64)> {
+    of.iter()
+        .map(|&(start, end)| match random.below(2) {
+            0 => (start, end),
+            _ => (start, start.saturating_add(tally_length(random, far_too))),
         })
         .collect()
 }

@@ -385,13 +385,18 @@ impl Counts {
         wanted.extend(
             ["none", "one short", "exact", "one over"].map(|room| (By::Room, room.to_owned())),
         );
+        self.below(wanted, LEAST)
+    }
+
+    /// Which of these were met less often than so.
+    pub fn below(&self, wanted: Vec<(By, String)>, least: u64) -> Vec<String> {
         wanted
             .into_iter()
             .filter_map(|(by, name)| {
                 let count = self.by.get(&(by as u8, name.clone())).copied().unwrap_or(0);
-                (count < LEAST).then(|| {
+                (count < least).then(|| {
                     format!(
-                        "{} {}: {count}, below {LEAST}",
+                        "{} {}: {count}, below {least}",
                         HEADINGS[by as usize],
                         name.trim()
                     )

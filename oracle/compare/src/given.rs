@@ -4,6 +4,7 @@
 use crate::answer::{self, Answer, Boundary, Coverage, Doubt, Phase};
 use crate::book::{self, Published, Record};
 use crate::judge::{INSTANTS, judge};
+use crate::tally;
 use jiff::civil::{Date, Time, Weekday};
 use jiff::tz::TimeZone;
 use market_time_core as given;
@@ -13,6 +14,7 @@ use market_time_core::{
     PhaseOutcome, RuleKind, Ruleset, Timeline, TimelineSegment, Uncertainty, UtcInstant, VenueId,
     VenueProfile, VenueRuleset,
 };
+use std::cmp::Ordering;
 
 /// The event code that stands for `FundingSettlement`, the only kind the Rust has.
 pub const SETTLEMENT: u16 = 1;
@@ -21,6 +23,7 @@ pub const SETTLEMENT: u16 = 1;
 pub enum Query {
     Point { at: i64 },
     Window { start: i64, end: i64 },
+    Tally { start: i64, end: i64 },
 }
 
 /// A book as the original has it.
@@ -304,14 +307,18 @@ impl Venue {
 
     /// The answer's bytes, or the query's number.
     pub fn answer(&self, query: &Query) -> Result<Vec<u8>, u32> {
-        let outside = |at: &i64| *at < INSTANTS[0] || *at > INSTANTS[1];
-        match query {
+        match *query {
             Query::Point { at } if outside(at) => Err(10),
-            Query::Point { at } => Ok(answer::encode(&self.point(*at))),
-            Query::Window { start, end } if outside(start) || outside(end) => Err(10),
-            Query::Window { start, end } if end < start => Err(11),
-            Query::Window { start, end } if end == start => Err(12),
-            Query::Window { start, end } => Ok(answer::encode(&self.window(*start, *end))),
+            Query::Point { at } => Ok(answer::encode(&self.point(at))),
+            Query::Window { start, end } => {
+                judge_window(start, end)?;
+                Ok(answer::encode(&self.window(start, end)))
+            }
+            Query::Tally { start, end } => {
+                judge_window(start, end)?;
+                tally::judge_length(start, end)?;
+                Ok(answer::encode(&tally::tally(&self.timeline(start, end))))
+            }
         }
     }
 
@@ -321,14 +328,8 @@ impl Venue {
             Query::Point { at } => usize::from(
                 !given::resolve_phase(instant(at), &self.id, &self.ruleset).is_unknown(),
             ),
-            Query::Window { start, end } => {
-                let asked = Interval {
-                    start: instant(start),
-                    end: instant(end),
-                };
-                given::resolve_timeline(asked, &self.id, &self.ruleset)
-                    .segments
-                    .len()
+            Query::Window { start, end } | Query::Tally { start, end } => {
+                self.timeline(start, end).segments.len()
             }
         }
     }
@@ -349,7 +350,8 @@ impl Venue {
         out
     }
 
-    fn timeline(&self, start: i64, end: i64) -> Timeline {
+    /// The Rust's timeline of a window.
+    pub fn timeline(&self, start: i64, end: i64) -> Timeline {
         let asked = Interval {
             start: instant(start),
             end: instant(end),
@@ -378,6 +380,21 @@ impl Venue {
             }
         }
         out
+    }
+}
+
+/// A query's instant or a window's edge outside the range: number 10.
+pub fn outside(at: i64) -> bool {
+    !(INSTANTS[0]..=INSTANTS[1]).contains(&at)
+}
+
+/// A window's numbers: 10, 11, 12.
+pub fn judge_window(start: i64, end: i64) -> Result<(), u32> {
+    match end.cmp(&start) {
+        _ if outside(start) || outside(end) => Err(10),
+        Ordering::Less => Err(11),
+        Ordering::Equal => Err(12),
+        Ordering::Greater => Ok(()),
     }
 }
 

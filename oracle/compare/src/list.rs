@@ -3,7 +3,7 @@
 //! A record is an entry, a byte, and ten signed numbers of 8 bytes: the reply's number and length, the
 //! lengths of the book and of the room, 1 where the book is all zeros, and five for the query; then the book's
 //! bytes (none of zeros), then the answer's. Records stand in blocks of 65,536 bytes, none across an edge, with
-//! zeros up to the edge. Entries: 1 point (its instant), 2 window (start, end); 3 tally, 4 cells, 5 class and
+//! zeros up to the edge. Entries: 1 point (its instant), 2 window, 3 tally (start, end); 4 cells, 5 class and
 //! 6 count are kept for those. A row's bytes stand where the book's do.
 
 use crate::count::{By, Counts};
@@ -51,6 +51,7 @@ fn record(case: &Case) -> Vec<u8> {
     let (entry, query) = match *case.query {
         Query::Point { at } => (1, [at, 0, 0, 0, 0]),
         Query::Window { start, end } => (2, [start, end, 0, 0, 0]),
+        Query::Tally { start, end } => (3, [start, end, 0, 0, 0]),
     };
     let lengths = [
         case.answer.len(),

@@ -2,6 +2,8 @@
 //!
 //!     compare points --seed S --books N [--from I] [--long]
 //!     compare windows --seed S --books N [--from I] [--long]
+//!     compare tallies --seed S --books N [--from I] [--long]
+//!     compare board --seed S --books N [--from I] [--long]
 //!     compare plain --seed S --books N [--from I] [--long]
 //!     compare listing --seed S --books N [--from I] -- PROGRAM WORDS..
 //!     compare places
@@ -15,21 +17,29 @@
 mod agree;
 mod answer;
 mod ask;
+mod ask_rows;
+mod board;
 mod book;
 mod count;
 mod damage;
+mod drawn;
 mod given;
 mod judge;
 mod lacking;
 mod list;
 mod listing;
 mod make;
+mod make_rows;
 mod places;
 mod plain;
 mod plain_books;
 mod port;
 mod random;
+mod row;
+mod row_places;
 mod speed;
+mod tallies;
+mod tally;
 mod walk;
 mod zones;
 
@@ -467,7 +477,7 @@ fn list_of_windows(arguments: &Arguments) -> List {
 fn main() {
     let Some(arguments) = arguments() else {
         eprintln!(
-            "usage: compare points|speed|windows|plain|listing|places|list|zones [--seed S] [--from I] [--books N] [--long] [FILE] [-- PROGRAM ..]"
+            "usage: compare points|speed|windows|tallies|board|plain|listing|places|list|zones [--seed S] [--from I] [--books N] [--long] [FILE] [-- PROGRAM ..]"
         );
         exit(2);
     };
@@ -481,6 +491,18 @@ fn main() {
             &arguments.program,
         ),
         "places" => places::run(),
+        "tallies" => tallies::run(
+            arguments.seed,
+            arguments.from,
+            arguments.books,
+            arguments.long,
+        ),
+        "board" => board::run(
+            arguments.seed,
+            arguments.from,
+            arguments.books,
+            arguments.long,
+        ),
         "plain" => agree::run(
             arguments.seed,
             arguments.from,

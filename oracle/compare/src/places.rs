@@ -6,6 +6,7 @@ use crate::book::{self, Event, Published, Record, Rule};
 use crate::given::{Query, SETTLEMENT, Venue, lend};
 use crate::judge::{DAYS, INSTANTS, SECOND};
 use crate::port::{self, Room};
+use crate::row_places;
 use std::process::exit;
 
 const MONDAY: i64 = 20_458;
@@ -761,7 +762,8 @@ pub fn run() {
             exit(1);
         }
     }
-    println!("places {}", places.len() + unchecked().len());
+    let of_rows = row_places::run();
+    println!("places {}", places.len() + unchecked().len() + of_rows);
 }
 
 /// Books of Monday alone that document 01 accepts, and the error that the Rust's `from_parts` has for them.
