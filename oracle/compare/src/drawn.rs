@@ -128,7 +128,7 @@ fn class_of(counted: Counted) -> u32 {
     }
 }
 
-fn counted(rows: &[BoardRow], at: i64) -> Counted {
+pub fn counted(rows: &[BoardRow], at: i64) -> Counted {
     let count = doors::trading_count(rows, instant(at));
     let of = [
         count.venues,
@@ -163,10 +163,12 @@ pub fn count(rows: &[u8], at: i64) -> Result<Counted, u32> {
     if outside(at) {
         return Err(10);
     }
-    let rows = row::marked(rows).ok_or(15_u32)?;
-    let rows: Vec<BoardRow> = rows
-        .iter()
+    Ok(counted(&self::rows(&row::marked(rows).ok_or(15_u32)?), at))
+}
+
+/// Rows as the original's board has them.
+pub fn rows(rows: &[Row]) -> Vec<BoardRow> {
+    rows.iter()
         .map(|row| BoardRow::new(timeline(row), None))
-        .collect();
-    Ok(counted(&rows, at))
+        .collect()
 }

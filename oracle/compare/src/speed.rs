@@ -1,9 +1,13 @@
 //! How fast the port answers, and how fast the original does from a prepared ruleset, in one run: the best of several.
-//! The port checks and opens the whole book at every call; its room is not cleared between calls.
+//! The port checks and opens the whole book, or judges the whole row, at every call; its room is not cleared between calls. The
+//! original has its values ready. It has no tally: beside the port's stands the time of its timeline alone.
 
-use crate::book::{self, Published, Record, Rule};
+use crate::book::{self, Event, Published, Record, Rule};
+use crate::drawn::{self, Cells};
 use crate::given::{Query, Venue};
+use crate::make_rows;
 use crate::port::{self, Room};
+use crate::row;
 use std::hint::black_box;
 use std::time::Instant;
 
@@ -13,25 +17,114 @@ const DAY: i64 = 86_400 * SECOND;
 const YEAR: i64 = 1_767_225_600 * SECOND;
 const FIRST: i32 = 20_454;
 
-fn weekly(mask: u8, points: &[(i64, u8)], days: i32) -> Record {
+const EXACT: Published = Published {
+    tag: 0,
+    nanos: 0,
+    text: 0,
+};
+
+fn rule(code: u8, mask: u8, first: i32, last: i32, points: &[(i64, u8)]) -> Record {
     Record::Rule(Rule {
-        first: FIRST,
-        last: FIRST + days - 1,
-        code: 0,
+        first,
+        last,
+        code,
         mask,
-        label: 0,
+        label: u16::from(code),
         evidence: 1,
         derived: 0,
-        published: Published {
-            tag: 0,
-            nanos: 0,
-            text: 0,
-        },
+        published: EXACT,
         points: points
             .iter()
             .map(|&(second, phase)| ((second * SECOND) as u64, phase))
             .collect(),
     })
+}
+
+fn weekly(mask: u8, points: &[(i64, u8)], days: i32) -> Record {
+    rule(0, mask, FIRST, FIRST + days - 1, points)
+}
+
+fn event(times: &[i64], days: i32) -> Record {
+    Record::Event(Event {
+        first: FIRST,
+        last: FIRST + days - 1,
+        code: 1,
+        evidence: 1,
+        published: EXACT,
+        times: times
+            .iter()
+            .map(|second| (second * SECOND) as u64)
+            .collect(),
+    })
+}
+
+/// The day number of a date after 1600.
+fn day_number(year: i64, month: i64, day: i64) -> i64 {
+    let (y, m) = if month > 2 {
+        (year, month)
+    } else {
+        (year - 1, month + 12)
+    };
+    365 * y + y / 4 - y / 100 + y / 400 + (153 * (m - 3) + 2) / 5 + day - 719_469
+}
+
+/// The n-th Sunday of a month.
+fn sunday(year: i64, month: i64, n: i64) -> i64 {
+    let first = day_number(year, month, 1);
+    first + (3 - first).rem_euclid(7) + 7 * (n - 1)
+}
+
+/// New York's clock, as it is now, over three centuries.
+fn new_york() -> impl Iterator<Item = Record> {
+    (1900..2200).flat_map(|year| {
+        [
+            (sunday(year, 3, 2) * 86_400 + 25_200, -14_400),
+            (sunday(year, 11, 1) * 86_400 + 21_600, -18_000),
+        ]
+        .map(|(at, offset)| Record::Change { at, offset })
+    })
+}
+
+/// Ten years with 134 rules, 600 clock changes and three events a day.
+fn rich() -> Vec<u8> {
+    let open = [(0, 0), (28_800, 1), (34_200, 3), (57_600, 6), (72_000, 0)];
+    let mut records = vec![Record::Head {
+        start: YEAR,
+        end: YEAR + 3650 * DAY,
+        offset: -18_000,
+    }];
+    records.extend(new_york());
+    records.extend([weekly(31, &open, 3650), weekly(96, &[(0, 0)], 3650)]);
+    records.extend([weekly(4, &open[..3], 365), weekly(64, &[(0, 0)], 365)]);
+    for k in 0..130 {
+        let day = FIRST + 28 * k + 7;
+        let points = if k % 3 == 0 { &open[..4] } else { &[(0, 0)] };
+        records.push(rule(1 + (k % 2) as u8, 0, day, day, points));
+    }
+    records.push(event(&[3600, 34_200, 57_600], 3650));
+    book::encode(&records)
+}
+
+/// As much of everything as a book may have.
+fn largest() -> Vec<u8> {
+    let points: Vec<(i64, u8)> = (0..16).map(|i| (i * 5000, (i % 8) as u8)).collect();
+    let mut records = vec![Record::Head {
+        start: YEAR,
+        end: YEAR + 3650 * DAY,
+        offset: -18_000,
+    }];
+    records.extend((0..640).map(|i| Record::Change {
+        at: day_number(1900, 1, 2) * 86_400 + i * 14_700_000,
+        offset: if i % 2 == 0 { -14_400 } else { -18_000 },
+    }));
+    records.extend((0..256).map(|_| weekly(127, &points, 3650)));
+    records.extend((0..32).map(|i| {
+        event(
+            &[0, 1, 2, 3, 4, 5, 6, 7].map(|k| k * 10_000 + i * 100),
+            3650,
+        )
+    }));
+    book::encode(&records)
 }
 
 /// Book A, over so many days.
@@ -60,26 +153,66 @@ fn best(tries: usize, calls: usize, mut call: impl FnMut()) -> f64 {
         .fold(f64::INFINITY, f64::min)
 }
 
-fn row(name: &str, book: &[u8], query: Query, calls: usize) {
-    let venue = Venue::open(book).expect("a good book");
-    let length = venue.answer(&query).expect("an answer").len();
-    let mut room = Room::new(length);
-    assert_eq!(port::ask(book, &query, &mut room), (0, length));
-    let given = best(10, calls, || {
-        black_box(venue.timed(black_box(&query)));
-    });
-    let ours = best(10, calls, || {
-        black_box(port::ask(black_box(book), black_box(&query), &mut room));
-    });
+fn told(name: &str, ours: f64, given: f64, length: usize) {
     println!(
-        "{name:<24} {ours:>12.0} ns {given:>12.0} ns {:>8.1} {length:>9} bytes",
+        "{name:<28} {ours:>12.0} ns {given:>13.0} ns {:>8.1} {length:>9} bytes",
         given / ours
     );
 }
 
+fn answered(name: &str, book: &[u8], query: Query, tries: usize, calls: usize) {
+    let venue = Venue::open(book).expect("a good book");
+    let length = venue.answer(&query).expect("an answer").len();
+    let mut room = Room::new(length);
+    assert_eq!(port::ask(book, &query, &mut room), (0, length));
+    let given = best(tries, calls, || {
+        black_box(venue.timed(black_box(&query)));
+    });
+    let ours = best(tries, calls, || {
+        black_box(port::ask(black_box(book), black_box(&query), &mut room));
+    });
+    told(name, ours, given, length);
+}
+
+fn drawn_cells(name: &str, bytes: &[u8], days: i64, columns: i64) {
+    let asked = Cells {
+        start: YEAR,
+        end: YEAR + days * DAY,
+        columns,
+        marked: true,
+        now: YEAR + 1,
+    };
+    let timeline = drawn::timeline(&row::row(bytes).expect("a good row"));
+    let length = columns as usize + 2;
+    let mut room = Room::new(length);
+    assert_eq!(port::cells(bytes, &asked, &mut room), (0, length));
+    let given = best(10, 20, || {
+        black_box(drawn::render(black_box(&timeline), &asked));
+    });
+    let ours = best(10, 20, || {
+        black_box(port::cells(black_box(bytes), &asked, &mut room));
+    });
+    told(name, ours, given, length);
+}
+
+fn counted(name: &str, bytes: &[u8], many: u16) {
+    let marked: Vec<u8> = (0..many)
+        .flat_map(|number| [make_rows::mark(number), bytes.to_vec()].concat())
+        .collect();
+    let rows = drawn::rows(&row::marked(&marked).expect("good rows"));
+    let at = YEAR + 4 * DAY + 10 * 3600 * SECOND;
+    assert_eq!(port::count(&marked, at).0, 0);
+    let given = best(10, 20, || {
+        black_box(drawn::counted(black_box(&rows), at));
+    });
+    let ours = best(10, 20, || {
+        black_box(port::count(black_box(&marked), at));
+    });
+    told(name, ours, given, marked.len());
+}
+
 pub fn run() {
-    println!("what                             port         Rust    ratio    answer");
-    let year = book_a(365);
+    println!("what                                 port          Rust    ratio    bytes");
     let point = Query::Point {
         at: YEAR + 4 * DAY + 10 * 3600 * SECOND,
     };
@@ -87,8 +220,48 @@ pub fn run() {
         start: YEAR,
         end: YEAR + days * DAY,
     };
-    row("A, a point", &year, point, 1000);
-    row("A, a day", &year, window(1), 1000);
-    row("A, a year", &year, window(365), 10);
-    row("A, ten years", &book_a(3650), window(3650), 2);
+    let tally = Query::Tally {
+        start: YEAR,
+        end: YEAR + 365 * DAY,
+    };
+    let (small, rich, largest) = (book_a(3650), rich(), largest());
+    for (name, book, tries, calls) in [
+        ("A", &small, 10, 10),
+        ("rich", &rich, 10, 1),
+        ("largest", &largest, 3, 1),
+    ] {
+        let small_calls = calls * 50;
+        answered(&format!("{name}, a point"), book, point, tries, small_calls);
+        answered(
+            &format!("{name}, a day"),
+            book,
+            window(1),
+            tries,
+            small_calls,
+        );
+        answered(&format!("{name}, a year"), book, window(365), tries, calls);
+        answered(&format!("{name}, ten years"), book, window(3650), tries, 1);
+        answered(
+            &format!("{name}, a year's tally"),
+            book,
+            tally,
+            tries,
+            calls,
+        );
+    }
+    for days in [1, 365] {
+        let length = Venue::open(&rich)
+            .expect("a good book")
+            .answer(&window(days))
+            .expect("an answer");
+        for columns in [12, 512] {
+            drawn_cells(
+                &format!("rich, {days} d in {columns} cells"),
+                &length,
+                days,
+                columns,
+            );
+        }
+        counted(&format!("rich, {days} d, count of 100"), &length, 100);
+    }
 }
