@@ -6,3 +6,4 @@ pub mod Domain
 pub mod Validity
 pub mod Throughout
 pub mod Ahead
+pub mod Shifts

@@ -3,6 +3,7 @@ mod convert;
 mod dated;
 mod number;
 mod search;
+mod steady;
 mod valid;
 mod wide;
 
@@ -19,6 +20,10 @@ pub use number::Timed;
 pub use number::instant_of;
 pub use number::number_of;
 pub use search::offset_at;
+pub use steady::Steady;
+pub use steady::steady_day;
+pub use steady::steady_midnight;
+pub use steady::steady_offset;
 pub use valid::is_valid;
 pub use wide::widest;
 

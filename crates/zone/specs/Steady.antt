@@ -1,0 +1,48 @@
+-- Where no transition is near: the wall shows an instant by one offset, and a date's times stand as far behind its midnight as they are long.
+-- Assumes nothing.
+use Prim.Native.Nat.{ℕ, _+_, _-_, _*_, _≤_}
+use mathlib.Core.Bool.{Bool, true, cond, not, _&&_}
+use mathlib.Core.List.{List, [], _∷_}
+use lib.Dec.{leb, ltb}
+use Rattle.calendar.specs.Answers.{firstDay, lastDay}
+use Rattle.zone.specs.Units.{dayNs, mostOffset, mostNs, offsetNs, readingDay}
+use Rattle.zone.specs.Zone.{Change, Zone, offsetAt, instantBy}
+use Rattle.zone.specs.declared.steady.Steady.{Steady}
+use Rattle.zone.specs.declared.steady.Steady.the-variants.{No, By}
+
+abbrev pub marginNs : ℕ
+marginNs = 4 * dayNs
+
+-- where transitions can stand: so far from the first and the last instant in use that nothing saturates
+abbrev pub firstSteady : ℕ
+firstSteady = firstDay * dayNs
+
+abbrev pub lastSteady : ℕ
+lastSteady = (lastDay + 1) * dayNs
+
+-- no transition stands after a and up to b
+unfoldable pub noneWithin : ℕ → ℕ → List Change → Bool
+noneWithin a b [] = true
+noneWithin a b (c ∷ cs) = not (ltb a (c .at) && leb (c .at) b) && noneWithin a b cs
+
+-- the offset, if no transition stands from four days before `from` to four days after `to`
+unfoldable pub steadyOf : Zone → ℕ → ℕ → Steady
+steadyOf z from to =
+    cond (leb firstSteady from && leb to lastSteady)
+    (cond (noneWithin (from - marginNs) (to + marginNs) (z .changes)) (By (offsetAt z (from - marginNs))) No)
+    No
+
+-- the date that the wall shows by an offset
+abbrev pub dayBy : ℕ → ℕ → ℕ
+dayBy o t = readingDay (t + offsetNs o - mostNs)
+
+-- the instant at which a date begins by an offset
+abbrev pub midnightBy : ℕ → ℕ → ℕ
+midnightBy o d = instantBy o (d * dayNs)
+
+-- an offset and an instant, and an offset and a date, for which these are meant
+abbrev pub OnWall : ℕ → ℕ → Type 0
+OnWall o t = (o ≤ 2 * mostOffset) × (firstSteady ≤ t) × (t ≤ lastSteady)
+
+abbrev pub DayOnWall : ℕ → ℕ → Type 0
+DayOnWall o d = (o ≤ 2 * mostOffset) × (3 ≤ d) × (d ≤ lastDay + 5)

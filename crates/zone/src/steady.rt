@@ -1,0 +1,70 @@
+// Where no transition is near: one offset for readings and conversions alike.
+ghost use mathlib.Core.Path.{_≡_};
+ghost use lib.ListN.{getD};
+ghost use Rattle.zone.specs.Zone.{zoneOf};
+ghost use Rattle.zone.specs.Answers.{Valid};
+ghost use Rattle.zone.specs.Steady.{steadyOf, dayBy, midnightBy, OnWall, DayOnWall};
+use crate::DAY_NS;
+use crate::Instant;
+use crate::SECOND_NS;
+use crate::search::offset_after;
+use crate::search::passed;
+use calendar::Day;
+
+// The offset, in seconds plus 57,600, where no transition is near.
+pub enum Steady {
+    No,
+    By(u32),
+}
+
+const MOST_NS: u64 = 57_600 * SECOND_NS;
+
+const MARGIN_NS: u64 = 4 * DAY_NS;
+
+const FIRST_STEADY: u64 = 7 * DAY_NS;
+
+const LAST_STEADY: u64 = 109_580 * DAY_NS;
+
+// Where the next transition stands; where there is none, past every instant.
+fn next_at(ats: &[u64], count: usize) -> u64
+    ensures { λ r. ⌜ r ≡ getD (now (ats .entry)) count 18446744073709551615 ⌝ }
+{
+    if count < ats.len() {
+        return ats[count];
+    }
+    0xffff_ffff_ffff_ffff
+}
+
+// The offset from four days before one instant to four days after another, if no transition stands there.
+pub fn steady_offset(first: u32, ats: &[u64], offsets: &[u32], from: Instant, to: Instant) -> Steady
+    requires { ⌜ Valid first (now ats) (now offsets) ⌝ }
+    ensures { λ r. ⌜ r ≡ steadyOf (zoneOf first (now (ats .entry)) (now (offsets .entry))) (from .0) (to .0) ⌝ }
+{
+    if from.0 < FIRST_STEADY {
+        return Steady::No;
+    }
+    if LAST_STEADY < to.0 {
+        return Steady::No;
+    }
+    let count = passed(ats, from.0 - MARGIN_NS);
+    if next_at(ats, count) <= to.0 + MARGIN_NS {
+        return Steady::No;
+    }
+    Steady::By(offset_after(first, offsets, count))
+}
+
+// The date that the wall shows by an offset.
+pub fn steady_day(offset: u32, t: Instant) -> Day
+    requires { ⌜ OnWall offset (t .0) ⌝ }
+    ensures { λ r. ⌜ r .0 ≡ dayBy offset (t .0) ⌝ }
+{
+    Day(((t.0 + offset as u64 * SECOND_NS - MOST_NS) / DAY_NS) as u32)
+}
+
+// The instant at which a date begins by an offset.
+pub fn steady_midnight(offset: u32, d: Day) -> Instant
+    requires { ⌜ DayOnWall offset (d .0) ⌝ }
+    ensures { λ r. ⌜ r .0 ≡ midnightBy offset (d .0) ⌝ }
+{
+    Instant(d.0 as u64 * DAY_NS + MOST_NS - offset as u64 * SECOND_NS)
+}
