@@ -211,6 +211,57 @@ fn counted(name: &str, bytes: &[u8], many: u16) {
     told(name, ours, given, marked.len());
 }
 
+/// A year of a book with so many rules over ten years, of so many points, and so many clock changes in and around the year.
+fn grown(rules: i32, changes: i64, points: i64) -> Vec<u8> {
+    let points: Vec<(i64, u8)> = (0..points)
+        .map(|i| (i * 86_400 / points, (i % 8) as u8))
+        .collect();
+    let mut records = vec![Record::Head {
+        start: YEAR,
+        end: YEAR + 3650 * DAY,
+        offset: 0,
+    }];
+    records.extend((0..changes).map(|i| Record::Change {
+        at: YEAR / SECOND + (i - changes / 2) * 7_000_000,
+        offset: if i % 2 == 0 { 3600 } else { 0 },
+    }));
+    records.push(weekly(127, &points, 3650));
+    records.extend((1..rules).map(|k| {
+        let day = FIRST + 3650 * k / rules;
+        rule(1, 0, day, day, &points)
+    }));
+    book::encode(&records)
+}
+
+/// How the cost of a window grows, one number at a time.
+fn growth() {
+    let days = |n: i64| Query::Window {
+        start: YEAR,
+        end: YEAR + n * DAY,
+    };
+    let asked = |name: String, book: &[u8], n: i64| answered(&name, book, days(n), 10, 1);
+    for rules in [1, 4, 16, 64, 256] {
+        asked(format!("a year, {rules} rules"), &grown(rules, 2, 4), 365);
+    }
+    for changes in [0, 10, 40, 160, 640] {
+        asked(
+            format!("a year, {changes} clock changes"),
+            &grown(4, changes, 4),
+            365,
+        );
+    }
+    for points in [1, 2, 4, 8, 16] {
+        asked(
+            format!("a year, {points} points"),
+            &grown(4, 2, points),
+            365,
+        );
+    }
+    for n in [1, 10, 100, 1000, 3650] {
+        asked(format!("{n} days"), &grown(4, 2, 4), n);
+    }
+}
+
 pub fn run() {
     println!("what                                 port          Rust    ratio    bytes");
     let point = Query::Point {
@@ -264,4 +315,5 @@ pub fn run() {
         }
         counted(&format!("rich, {days} d, count of 100"), &length, 100);
     }
+    growth();
 }
