@@ -2,53 +2,72 @@
 // room, and prints how many it met of each number and kind of answer and how many differed. `tools/compare list` makes the list, and
 // oracle/compare/src/list.rs says how.
 ghost use Prim.Native.Nat.{_≤_};
+use board::cells_answer;
+use board::class_answer;
+use board::count_answer;
 use cases::met;
 use cases::number;
 use cases::report;
 use lend::Reply;
 use lend::refused;
 use point::point_answer;
+use tally::tally_answer;
 use timeline::window_answer;
 use wire::Placed;
+use wire::get4;
+use wire::get8;
 use wire::unplace;
 
-// A record has a kind, the entry that was asked, 1 for a point and 2 for a window, and ten numbers: the reply's number and length, the
-// lengths of the book and of the room, 1 for a book of zeros, and the query's. The book's bytes follow, none of zeros, and then the answer's.
+// A record has a kind, the entry that was asked, and ten numbers: the reply's number and the answer's length, the lengths of the book and of
+// the room, 1 for a book of zeros, and the query's. The book's bytes follow, none of zeros, and then the answer's. A row's bytes stand where
+// the book's do. Entry 1 is a point, and 6 the count of marked rows.
 const WINDOW: u8 = 2;
+
+const TALLY: u8 = 3;
+
+const CELLS: u8 = 4;
+
+const CLASS: u8 = 5;
+
+const ROWS: u8 = 6;
 
 const HEAD: usize = 81;
 
-// Counts stand at the reply's number, plus 1; then known points, unknown ones, windows, points refused, and what is no record.
+// Counts stand at the reply's number, plus 1; then known points, unknown ones, points refused, and what is no record.
 const KNOWN: u8 = 18;
 
 const UNKNOWN: u8 = 19;
 
-const WINDOWS: u8 = 20;
+const NO_ANSWER: u8 = 20;
 
-const NO_ANSWER: u8 = 21;
+const STRANGE: u8 = 21;
 
-const STRANGE: u8 = 22;
+// Another entry is counted so many places behind its own number.
+const ENTRIES: u8 = 20;
 
-const PLACES: usize = 23;
+const PLACES: usize = 27;
 
 const ZERO: u64 = 0x8000_0000_0000_0000;
 
 // The longest book of zeros.
 const LONGEST: usize = 100_000;
 
-// A room is the front of this many bytes, and what is behind it must stay as it was too.
-const LENT: usize = 16_384;
+// A room is the front of this many bytes, and what is behind it must stay as it was too. A tally of 400 days takes 40,100.
+const LENT: usize = 40_960;
 
 const AS_IT_WAS: u8 = 0xa5;
 
 // No number of the list's: the list lends more than there is.
 const NO_SUCH_ROOM: u32 = 1000;
 
-// A point's instant, or a window's start and end.
+// A window's start and end, or an instant as the start. The rest is of cells: columns, and the now, which counts where it is marked.
 struct Query {
     entry: u8,
     start: i64,
     end: i64,
+    columns: i64,
+    marked: bool,
+    now: i64,
 }
 
 // A number of the list, none above 2^32.
@@ -99,25 +118,65 @@ fn is_as_it_was(out: &[u8; LENT], from: usize) -> bool {
     true
 }
 
+// Asks an entry that is lent room.
+fn ask(book: &[u8], q: Query, room: &mut [u8]) -> Reply {
+    let entry = q.entry;
+    match entry {
+        WINDOW => window_answer(book, q.start, q.end, room),
+        TALLY => tally_answer(book, q.start, q.end, room),
+        CELLS => cells_answer(book, q.start, q.end, q.columns, q.marked, q.now, room),
+        _ => point_answer(book, q.start, room),
+    }
+}
+
 // Asks with the front of these bytes as the room.
 fn asked(book: &[u8], q: Query, out: &mut [u8], room: usize) -> Reply {
     if out.len() < room {
         return refused(NO_SUCH_ROOM);
     }
-    if q.entry == WINDOW {
-        return window_answer(book, q.start, q.end, &mut out[..room]);
-    }
-    point_answer(book, q.start, &mut out[..room])
+    ask(book, q, &mut out[..room])
 }
 
 // Whether a query gets this number and this answer, and nothing else is written.
-fn is_answered(book: &[u8], q: Query, room: usize, expected: usize, answer: &[u8]) -> bool {
+fn is_lent(book: &[u8], q: Query, room: usize, expected: usize, answer: &[u8]) -> bool {
     let mut out = [AS_IT_WAS; LENT];
     let reply = asked(book, q, &mut out, room);
     (reply.number as usize == expected)
         & (reply.length == answer.len())
         & begins(&out, answer)
         & is_as_it_was(&out, answer.len())
+}
+
+// Whether a row gets this number and this class, which the list has in 4 bytes. Beside a refusal it is 0.
+fn is_class(row: &[u8], at: i64, expected: usize, answer: &[u8]) -> bool {
+    if answer.len() != 4 {
+        return false;
+    }
+    let reply = class_answer(row, at);
+    (reply.number as usize == expected) & (reply.shown == get4(answer, 0))
+}
+
+// Whether rows get this number and these counts, which the list has in 8 bytes each. Beside a refusal they are 0.
+fn is_count(rows: &[u8], at: i64, expected: usize, answer: &[u8]) -> bool {
+    if answer.len() != 32 {
+        return false;
+    }
+    let reply = count_answer(rows, at);
+    (reply.number as usize == expected)
+        & (reply.venues == get8(answer, 0))
+        & (reply.trading == get8(answer, 8))
+        & (reply.not_trading == get8(answer, 16))
+        & (reply.not_known == get8(answer, 24))
+}
+
+// Whether the list's reply is given. The book may be a row.
+fn is_answered(book: &[u8], q: Query, room: usize, expected: usize, answer: &[u8]) -> bool {
+    let entry = q.entry;
+    match entry {
+        CLASS => is_class(book, q.start, expected, answer),
+        ROWS => is_count(book, q.start, expected, answer),
+        _ => is_lent(book, q, room, expected, answer),
+    }
 }
 
 // The same of the front of a book.
@@ -140,10 +199,13 @@ fn is_zeros_answered(length: usize, q: Query, room: usize, expected: usize, answ
     is_part_answered(&zeros, length, q, room, expected, answer)
 }
 
-// Where a window, or a point's answer of this kind, is counted.
+// Where an entry, or a point's answer of this kind, is counted.
 fn kind_place(entry: u8, answer: &[u8]) -> u8 {
-    if entry == WINDOW {
-        return WINDOWS;
+    if ROWS < entry {
+        return STRANGE;
+    }
+    if 1 < entry {
+        return ENTRIES + entry;
     }
     if answer.len() < 4 {
         return NO_ANSWER;
@@ -161,6 +223,9 @@ fn query_of(list: &[u8], entry: u8) -> Query {
         entry,
         start: unplace(number(list, 0, 5)),
         end: unplace(number(list, 0, 6)),
+        columns: unplace(number(list, 0, 7)),
+        marked: 0 < count(number(list, 0, 8)),
+        now: unplace(number(list, 0, 9)),
     }
 }
 
@@ -221,7 +286,7 @@ fn compare(list: &[u8], kind: u8, counts: &mut [u64]) -> usize
     if kind == 0 {
         return 1;
     }
-    if WINDOW < kind {
+    if ROWS < kind {
         met(counts, STRANGE, true);
         return 1;
     }
@@ -253,26 +318,36 @@ fn all_blocks(fd: i32, counts: &mut [u64]) {
     }
 }
 
-fn told_low(counts: &[u64]) {
+fn told_kinds(counts: &[u64]) {
     report(b"answered ", counts, 1);
     report(b"known points ", counts, KNOWN);
     report(b"unknown points ", counts, UNKNOWN);
-    report(b"windows ", counts, WINDOWS);
+    report(b"windows ", counts, ENTRIES + WINDOW);
+    report(b"tallies ", counts, ENTRIES + TALLY);
+    report(b"cells ", counts, ENTRIES + CELLS);
+    report(b"classes ", counts, ENTRIES + CLASS);
+    report(b"counts ", counts, ENTRIES + ROWS);
+}
+
+fn told_low(counts: &[u64]) {
     report(b"refused by 1 ", counts, 2);
     report(b"refused by 2 ", counts, 3);
     report(b"refused by 3 ", counts, 4);
     report(b"refused by 4 ", counts, 5);
     report(b"refused by 5 ", counts, 6);
-}
-
-fn told_high(counts: &[u64]) {
     report(b"refused by 6 ", counts, 7);
     report(b"refused by 7 ", counts, 8);
     report(b"refused by 8 ", counts, 9);
     report(b"refused by 9 ", counts, 10);
+}
+
+fn told_high(counts: &[u64]) {
     report(b"refused by 10 ", counts, 11);
     report(b"refused by 11 ", counts, 12);
     report(b"refused by 12 ", counts, 13);
+    report(b"refused by 13 ", counts, 14);
+    report(b"refused by 14 ", counts, 15);
+    report(b"refused by 15 ", counts, 16);
     report(b"refused by 16 ", counts, 17);
     report(b"differences ", counts, 0);
     report(b"bytes of the list not understood ", counts, STRANGE);
@@ -287,6 +362,7 @@ fn main() {
     let mut counts = [0u64; PLACES];
     all_blocks(fd, &mut counts);
     libc::close(fd);
+    told_kinds(&counts);
     told_low(&counts);
     told_high(&counts);
 }

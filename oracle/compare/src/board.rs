@@ -2,14 +2,14 @@
 
 use crate::ask;
 use crate::ask_rows;
-use crate::drawn::{self, Cells};
+use crate::drawn::{self, Cells, Counted};
 use crate::given::{Query, Venue, judge_window, lend, outside};
 use crate::make;
 use crate::make_rows::{self, CERTAIN, MARK, Records, WAYS};
 use crate::port::{self, Room};
 use crate::random::Random;
 use crate::row::{self, Row};
-use crate::{Place, book, hex};
+use crate::{Asked, Place, book, hex};
 use market_time_core::Timeline;
 use std::collections::BTreeMap;
 use std::process::exit;
@@ -19,19 +19,31 @@ const ROWS: u64 = 200_000;
 const LEAST: u64 = 500;
 
 /// What a run met, by name.
-#[derive(Default)]
-struct Met(BTreeMap<String, u64>);
+#[derive(Default, Clone)]
+pub struct Met(BTreeMap<String, u64>);
 
 impl Met {
-    fn add(&mut self, name: impl Into<String>) {
+    pub fn add(&mut self, name: impl Into<String>) {
         *self.0.entry(name.into()).or_default() += 1;
+    }
+
+    /// Whether another's names are here less often than wanted.
+    pub fn lacks(&self, other: &Self, wanted: fn(&str) -> u64) -> bool {
+        let mut names = other.0.keys();
+        names.any(|name| self.of(name) < wanted(name))
+    }
+
+    pub fn join(&mut self, other: &Self) {
+        for (name, count) in &other.0 {
+            *self.0.entry(name.clone()).or_default() += count;
+        }
     }
 
     fn of(&self, name: &str) -> u64 {
         self.0.get(name).copied().unwrap_or(0)
     }
 
-    fn print(&self) {
+    pub fn print(&self) {
         for (name, count) in &self.0 {
             println!("{name} {count}");
         }
@@ -111,7 +123,13 @@ fn differs(place: Place, bytes: &[u8], told: &[String]) -> ! {
 }
 
 /// Cells, compared and counted.
-fn ask_cells(place: Place, bytes: &[u8], asked: &Cells, random: &mut Random, met: &mut Met) {
+pub fn ask_cells(
+    place: Place,
+    bytes: &[u8],
+    asked: &Cells,
+    random: &mut Random,
+    met: &mut Met,
+) -> Asked {
     let answer = drawn::cells(bytes, asked);
     let room = ask::room(random, answer.as_ref().ok().map(Vec::len));
     let (mut theirs, mut ours) = (Room::new(room), Room::new(room));
@@ -137,6 +155,11 @@ fn ask_cells(place: Place, bytes: &[u8], asked: &Cells, random: &mut Random, met
     }
     let columns = COLUMNS.iter().find(|(_, most)| asked.columns <= *most);
     met.add(format!("columns {}", columns.expect("columns").0));
+    Asked {
+        number: expected.0,
+        answer: theirs.bytes()[..expected.1].to_vec(),
+        room,
+    }
 }
 
 fn count_room(room: usize, length: usize, met: &mut Met) {
@@ -172,8 +195,8 @@ fn count_cells(asked: &Cells, drawn: &[u8], met: &mut Met) {
     }
 }
 
-/// A class, compared and counted.
-fn ask_class(place: Place, bytes: &[u8], at: i64, met: &mut Met) {
+/// A class, compared and counted: the number and the class.
+pub fn ask_class(place: Place, bytes: &[u8], at: i64, met: &mut Met) -> (u32, u32) {
     let expected = match drawn::class(bytes, at) {
         Ok(class) => (0, class),
         Err(number) => (number, 0),
@@ -188,10 +211,11 @@ fn ask_class(place: Place, bytes: &[u8], at: i64, met: &mut Met) {
     if expected.0 == 0 {
         met.add(format!("class {}", expected.1));
     }
+    expected
 }
 
-/// A count, compared and counted.
-fn ask_count(place: Place, bytes: &[u8], at: i64, met: &mut Met) {
+/// A count, compared and counted: the number and the counts.
+pub fn ask_count(place: Place, bytes: &[u8], at: i64, met: &mut Met) -> (u32, Counted) {
     let expected = match drawn::count(bytes, at) {
         Ok(counted) => (0, counted),
         Err(number) => (number, [0; 4]),
@@ -207,13 +231,14 @@ fn ask_count(place: Place, bytes: &[u8], at: i64, met: &mut Met) {
     if venues > trading + not_trading + not_known {
         met.add(format!("situation {}", SITUATIONS[16]));
     }
+    expected
 }
 
 /// A good row: its records, what it holds, and the Rust's timeline that it is of, if it is of one.
-struct Made {
+pub struct Made {
     from: &'static str,
-    records: Records,
-    held: Row,
+    pub records: Records,
+    pub held: Row,
     of: Option<Timeline>,
 }
 
@@ -253,7 +278,7 @@ fn real(random: &mut Random, books: &[Vec<u8>]) -> Vec<Made> {
 }
 
 /// The good rows of one place of a run.
-fn rows(random: &mut Random) -> Vec<Made> {
+pub fn rows(random: &mut Random) -> Vec<Made> {
     let books = [make::book(random), make::overlap(random)].map(|records| book::encode(&records));
     let mut rows = real(random, &books);
     for _ in 0..8 {
@@ -263,7 +288,7 @@ fn rows(random: &mut Random) -> Vec<Made> {
     rows
 }
 
-fn count_row(row: &Made, met: &mut Met) {
+pub fn count_row(row: &Made, met: &mut Met) {
     met.add("rows");
     met.add(format!("rows {}", row.from));
     let pairs = || row.held.windows(2);
@@ -310,7 +335,7 @@ fn damage(random: &mut Random, row: &Made) -> (usize, Vec<u8>) {
 }
 
 /// A damaged row, which the judge must refuse where the damage is certain.
-fn ask_damaged(place: Place, row: &Made, random: &mut Random, met: &mut Met) -> Vec<u8> {
+pub fn damaged(row: &Made, random: &mut Random, met: &mut Met) -> Vec<u8> {
     let (way, bytes) = damage(random, row);
     let good = row::row(&bytes).is_some();
     assert!(!good || way >= CERTAIN, "{}: {}", WAYS[way], hex(&bytes));
@@ -321,23 +346,39 @@ fn ask_damaged(place: Place, row: &Made, random: &mut Random, met: &mut Met) -> 
         "rows damaged"
     });
     met.add(format!("damage {}", WAYS[way]));
+    bytes
+}
+
+fn ask_damaged(place: Place, row: &Made, random: &mut Random, met: &mut Met) {
+    let bytes = damaged(row, random, met);
     let edges = ask_rows::edges(&row.held);
     let asked = ask_rows::cells(random, &edges);
     ask_cells(place, &bytes, &asked, random, met);
     ask_class(place, &bytes, ask_rows::instant(random, &edges), met);
-    bytes
+}
+
+/// Rows behind marks, the edges of their segments, and how those that are damaged were.
+pub struct Marked {
+    pub bytes: Vec<u8>,
+    pub edges: Vec<i64>,
+    pub ways: Vec<&'static str>,
 }
 
 /// Marked rows: good ones, few damaged; marks with nothing behind; what stands before the first mark; no rows.
-fn ask_marked(place: Place, good: &[Made], random: &mut Random, met: &mut Met) {
+pub fn marked(good: &[Made], random: &mut Random, met: &mut Met) -> Marked {
     let many = random.below(7);
     let mut held: Vec<Vec<u8>> = Vec::new();
     let mut edges = Vec::new();
+    let mut ways = Vec::new();
     for _ in 0..many {
         let row = random.pick(good);
         edges.extend(ask_rows::edges(&row.held));
         held.push(match random.below(20) {
-            0 => damage(random, row).1,
+            0 => {
+                let (way, bytes) = damage(random, row);
+                ways.push(WAYS[way]);
+                bytes
+            }
             1 => make_rows::damaged(random, &row.records, MARK).expect("a mark in a row"),
             2 | 3 => Vec::new(),
             _ => row.records.concat(),
@@ -372,10 +413,16 @@ fn ask_marked(place: Place, good: &[Made], random: &mut Random, met: &mut Met) {
     {
         met.add(format!("situation {name}"));
     }
-    for _ in 0..2 {
-        ask_count(place, &bytes, ask_rows::instant(random, &edges), met);
-    }
     met.add("sets of marked rows");
+    Marked { bytes, edges, ways }
+}
+
+fn ask_marked(place: Place, good: &[Made], random: &mut Random, met: &mut Met) {
+    let rows = marked(good, random, met);
+    for _ in 0..2 {
+        let at = ask_rows::instant(random, &rows.edges);
+        ask_count(place, &rows.bytes, at, met);
+    }
 }
 
 pub fn run(seed: u64, from: u64, books: u64, long: bool) {

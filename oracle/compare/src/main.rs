@@ -27,6 +27,7 @@ mod given;
 mod judge;
 mod lacking;
 mod list;
+mod list_rows;
 mod listing;
 mod make;
 mod make_rows;
@@ -45,7 +46,7 @@ mod zones;
 
 use count::{By, Counts, situations};
 use given::{Query, SETTLEMENT, Venue, lend};
-use list::{Case, List};
+use list::{Case, List, Question};
 use port::Room;
 use random::Random;
 use std::process::exit;
@@ -362,7 +363,8 @@ fn run_windows(arguments: &Arguments) {
     }
 }
 
-/// Writes the list that crates/replay asks again. Books with an event code that is not compared are left out.
+/// Writes the list that crates/replay asks again. Books with an event code that is not compared are left out, but for
+/// tallies, which show no event.
 fn run_list(arguments: &Arguments, file: &str) {
     let mut list = List::default();
     let offer = |list: &mut List,
@@ -379,12 +381,11 @@ fn run_list(arguments: &Arguments, file: &str) {
             answer,
             room,
         } = &asked;
-        let query = &Query::Point { at };
         list.offer(
             &Case {
                 book,
                 zeros,
-                query,
+                question: Question::Book(Query::Point { at }),
                 room: *room,
                 number: *number,
                 answer,
@@ -428,7 +429,12 @@ fn run_list(arguments: &Arguments, file: &str) {
     list.print();
     let windows = list_of_windows(arguments);
     windows.print();
-    list.append(&windows);
+    list.append(windows);
+    let places = |most| arguments.from..arguments.from + arguments.books.min(most);
+    let tallies = tallies::list(arguments.seed, places(600));
+    tallies.print();
+    list.append(tallies);
+    list.append(list_rows::list(arguments.seed, places(1000)));
     list.write(file);
 }
 
@@ -461,7 +467,7 @@ fn list_of_windows(arguments: &Arguments) -> List {
                     &Case {
                         book: bytes,
                         zeros: false,
-                        query: &Query::Window { start, end },
+                        question: Question::Book(Query::Window { start, end }),
                         room: asked.room,
                         number: asked.number,
                         answer: &asked.answer,

@@ -3,11 +3,13 @@
 use crate::answer::{self, Answer};
 use crate::count::{By, Counts};
 use crate::given::{Query, Venue};
-use crate::judge::{DAY, SECOND};
+use crate::judge::{self, DAY, SECOND};
+use crate::list::{Case, List, Question};
 use crate::plain;
 use crate::random::Random;
 use crate::tally::{self, LONGEST, NONE, Totals, UNKNOWN};
-use crate::{Asking, Place, ask, book, books_and_windows, compare, walk};
+use crate::{Asked, Asking, Place, ask, book, books_and_windows, compare, walk};
+use std::ops::Range;
 use std::process::exit;
 
 /// The least windows that a long run must see answered, and the least of each thing met.
@@ -141,7 +143,7 @@ fn tally(
     (start, end): (i64, i64),
     random: &mut Random,
     counts: &mut Counts,
-) {
+) -> Asked {
     let query = Query::Tally { start, end };
     let asked = compare(place, &asking.bytes, &asking.opened, &query, random, counts);
     counts.windows += 1;
@@ -150,6 +152,7 @@ fn tally(
         counted_again(venue, start, end, &answers);
         count(venue, plain, (start, end), &answers, counts);
     }
+    asked
 }
 
 /// What a long run should have met and did not.
@@ -196,6 +199,12 @@ fn windows(random: &mut Random, asking: &Asking) -> Vec<(i64, i64)> {
     ask::tally_windows(random, &made, far_too)
 }
 
+/// Who judges the windows of an accepted book that names a venue.
+fn plain_venue(asking: &Asking) -> Option<plain::Venue> {
+    let records = asking.opened.is_ok().then(|| book::decode(&asking.bytes));
+    records.and_then(|records| plain::Venue::of(&records))
+}
+
 pub fn run(seed: u64, from: u64, books: u64, long: bool) {
     let mut counts = Counts::default();
     for book in from..from + books {
@@ -204,8 +213,7 @@ pub fn run(seed: u64, from: u64, books: u64, long: bool) {
         for asking in books_and_windows(&mut random) {
             let accepted = asking.opened.is_ok();
             counts.add(By::Books, if accepted { "accepted" } else { "refused" });
-            let records = accepted.then(|| book::decode(&asking.bytes));
-            let mut plain = records.and_then(|records| plain::Venue::of(&records));
+            let mut plain = plain_venue(&asking);
             for edges in windows(&mut random, &asking) {
                 tally(place, &asking, &mut plain, edges, &mut random, &mut counts);
             }
@@ -218,4 +226,60 @@ pub fn run(seed: u64, from: u64, books: u64, long: bool) {
         println!("met too seldom:\n{}", missing.join("\n"));
         exit(1);
     }
+}
+
+/// A book of so many zeros: none is a venue without data, too many get 1.
+fn zeros(random: &mut Random, many: usize) -> Asking {
+    let bytes = vec![0; many];
+    let opened = Venue::open(&bytes);
+    let window = match &opened {
+        Ok(_) => {
+            let start = random.from_to(0, 1000 * DAY as i64);
+            (start, start + random.from_to(1, 6 * DAY as i64))
+        }
+        Err(_) => (ask::far(random), ask::far(random)),
+    };
+    Asking {
+        bytes,
+        opened,
+        windows: vec![window],
+    }
+}
+
+/// The tallies of the list: as many as give each situation its share.
+pub fn list(seed: u64, places: Range<u64>) -> List {
+    let mut list = List::default();
+    let first = places.start;
+    for book in places {
+        let place = Place { seed, book };
+        let mut random = Random::new(seed, book);
+        let mut all = books_and_windows(&mut random);
+        if book - first < 12 {
+            let too_many = judge::LONGEST + 1 + random.below(30_000);
+            all.extend([0, too_many].map(|many| zeros(&mut random, many)));
+        }
+        for asking in all {
+            let mut plain = plain_venue(&asking);
+            let long = asking.bytes.len() > judge::LONGEST;
+            let zeros = long && asking.bytes.iter().all(|byte| *byte == 0);
+            list.next_book();
+            for (start, end) in windows(&mut random, &asking) {
+                let mut counts = Counts::default();
+                let edges = (start, end);
+                let asked = tally(place, &asking, &mut plain, edges, &mut random, &mut counts);
+                list.offer_tally(
+                    &Case {
+                        book: &asking.bytes,
+                        zeros,
+                        question: Question::Book(Query::Tally { start, end }),
+                        room: asked.room,
+                        number: asked.number,
+                        answer: &asked.answer,
+                    },
+                    &counts,
+                );
+            }
+        }
+    }
+    list
 }

@@ -5,11 +5,8 @@ use borrow.Author.Needs.{needs}
 use Rattle.replay.proofs.asked.Statement.{statement}
 use Rattle.replay.proofs.asked.Tie as tie
 
-slice-aggregate-window-answer : tie.Need-slice-aggregate-window-answer
-slice-aggregate-window-answer c = sym (length-take-le _ _ (omega arith))
-
-slice-aggregate-point-answer : tie.Need-slice-aggregate-point-answer
-slice-aggregate-point-answer c = sym (length-take-le _ _ (omega arith))
+slice-aggregate-ask : tie.Need-slice-aggregate-ask
+slice-aggregate-ask c = sym (length-take-le _ _ (omega arith))
 
 pub asked-spec : {M : Type 1} → statement M
 asked-spec =
@@ -18,12 +15,7 @@ asked-spec =
     (λ c κs. search needs)
     (λ c. search needs)
     (λ c. search needs)
-    slice-aggregate-window-answer
-    (λ c κs. search needs)
-    (λ c. search needs)
-    (λ c. search needs)
-    (λ c. search needs)
-    slice-aggregate-point-answer
+    slice-aggregate-ask
     (λ c κs. search needs)
     (λ c. search needs)
     (λ c. search needs))

@@ -5,7 +5,7 @@ use Rattle.replay.proofs.begins.Statement.{statement}
 use Rattle.replay.proofs.begins.Tie as tie
 
 abbrev Inv-loop : tie.InvT-loop
-Inv-loop out answer i₀ i = length answer ≤ 16384
+Inv-loop out answer i₀ i = length answer ≤ 40960
 
 abbrev μ-loop : tie.MeasureT-loop
 μ-loop out answer i₀ i = length answer - i

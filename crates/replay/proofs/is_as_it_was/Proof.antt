@@ -8,7 +8,7 @@ abbrev Inv-loop : tie.InvT-loop
 Inv-loop out from i₀ i = from ≤ i
 
 abbrev μ-loop : tie.MeasureT-loop
-μ-loop out from i₀ i = 16384 - i
+μ-loop out from i₀ i = 40960 - i
 
 pub is-as-it-was-spec : {M : Type 1} → statement M
 is-as-it-was-spec =
