@@ -87,10 +87,6 @@ module _ {room : List ℕ} {at : ℕ} {done behind now : List ℕ} {n place end 
         kept = wrote-length (wrote now place h) (end + m) ws (omega arith) ∙ long;
       }
 
-  -- the hole is filled
-  pub hole-filled : (h : List ℕ) → length h ≡ n → wrote now place h ≡ wrote room at (done ++ (h ++ behind))
-  hole-filled h q = w .same h q
-
 -- the first hole
 pub hole-first : (room : List ℕ) (at n : ℕ) (ws : List ℕ) → at + (n + length ws) ≤ length room → Hole room at [] n ws (wrote room (at + n) ws) at (at + (n + length ws))
 hole-first room at n ws p =

@@ -24,10 +24,6 @@ module _ {A : Type 0} where
   lower a lo hi [] h w = omega arith
   lower a lo hi (s ∷ ss) h w = (omega arith, w .1, w .2)
 
-  pub widen : (lo hi b : ℕ) (ss : List (Span A)) → hi ≤ b → Within lo hi ss → Within lo b ss
-  widen lo hi b [] h w = omega arith
-  widen lo hi b (s ∷ ss) h w = (w .0, w .1, widen (s .to) hi b ss h (w .2))
-
   pub append : (a m b : ℕ) (xs ys : List (Span A)) → Within a m xs → Within m b ys → Within a b (xs ++ ys)
   append a m b [] ys w u = lower a m b ys w u
   append a m b (s ∷ ss) ys w u = (w .0, w .1, append (s .to) m b ss ys (w .2) u)

@@ -1,15 +1,13 @@
 -- What a loop that makes a timeline span by span needs: the cursor may move on within a date, joining may amend the last span, and a
 -- turn of the walk. Assumes nothing.
 use mathlib.Core.Path.{_≡_, refl, ap, _∙_}
-use mathlib.Core.Bool.{Bool, true, false, cond, _&&_}
+use mathlib.Core.Bool.{Bool, true, false, cond}
 use mathlib.Core.List.{List, [], _∷_, _++_, append-assoc}
-use Prim.Native.Nat.{ℕ, suc, _≤_, _<_, min, max}
+use Prim.Native.Nat.{ℕ, suc, _≤_, min, max}
 use native.Mathlib.Omega.{arith}
-use native.Mathlib.Decide.{decLt}
-use mathlib.Core.Option.{some}
-use borrow.Author.Tests.{lt-ltb, le-ltb, le-leb, lt-leb, ltb-true, ltb-false}
-use lib.Dec.{leb, ltb}
-use Rattle.spans.specs.Spans.{Span, Body, keep, clip, reach, look, Within, joins, joinedSpan, joinFrom}
+use borrow.Author.Tests.{le-ltb, ltb-true, ltb-false}
+use lib.Dec.{ltb}
+use Rattle.spans.specs.Spans.{Span, Body, keep, clip, reach, Within, joins, joinedSpan, joinFrom}
 use Rattle.spans.specs.Timeline.{Venue, midnight, spans, walk}
 use Rattle.spans.proofs.Lists.{ordered, reach-within}
 use Rattle.spans.proofs.Walking.{here-within}
@@ -61,16 +59,6 @@ module _ {A : Type 0} (a b : ℕ) (x : A) (rest : List (Span A)) where
       go true e = refl
       go false e = let l = ltb-false a b e in let z = le-ltb (max lo a) (min hi b) (omega arith) in simp z
 
-  pub look-keep : {C : Type 0} (f : A → C) (t : ℕ) → look f (keep a b x rest) t ≡ cond (leb a t && ltb t b) (some (f x)) (look f rest t)
-  unfolding look keep
-  look-keep f t = go (ltb a b) refl (decLt t a)
-    where
-      go : (q : Bool) → ltb a b ≡ q → Dec (t < a)
-          → look f (cond q (record { from = a; to = b; body = x } ∷ rest) rest) t ≡ cond (leb a t && ltb t b) (some (f x)) (look f rest t)
-      go true e d = refl
-      go false e (yes h) = let y = lt-leb a t h in simp y
-      go false e (no h) = let l = ltb-false a b e in let y = le-leb a t (omega arith) in let z = le-ltb t b (omega arith) in simp (y, z)
-
 module _ {A : Type 0} (B : Body A) (done : List (Span A)) (s r : Span A) (rs : List (Span A)) where
   -- the next span joins the last one, or stands after it
   pub amend : joins B s r ≡ true → done ++ joinFrom B s (r ∷ rs) ≡ done ++ joinFrom B (joinedSpan B s r) rs
@@ -87,14 +75,6 @@ module _ {A : Type 0} (v : Venue A) (hi n cursor : ℕ) where
 
   abbrev pub next : ℕ
   next = reach (min hi (midnight v (suc (v .reads cursor)))) here
-
-  pub turn-on : cursor < next → walk v hi (suc n) cursor ≡ here ++ walk v hi n next
-  unfolding walk
-  turn-on h = let e = lt-ltb cursor next h in simp e
-
-  pub turn-off : next ≤ cursor → walk v hi (suc n) cursor ≡ []
-  unfolding walk
-  turn-off h = let e = le-ltb cursor next h in simp e
 
   -- the spans of a turn may be written before it is known whether the walk goes on
   pub turn-any : walk v hi (suc n) cursor ≡ here ++ cond (ltb cursor next) (walk v hi n next) []

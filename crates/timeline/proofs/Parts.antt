@@ -44,13 +44,6 @@ gap-some {from} {to} h = simp (lt-ltb from to h)
 pub gap-none : {from to : ℕ} → to ≤ from → gapSize from to ≡ 0
 gap-none {from} {to} h = simp (le-ltb from to h)
 
-pub gap-most : (from to : ℕ) → gapSize from to ≤ 37
-gap-most from to = go (ltb from to)
-  where
-    go : (b : Bool) → cond b 37 0 ≤ 37
-    go true = omega arith
-    go false = omega arith
-
 module _ (c : Covered) {from to : ℕ} {room : List ℕ} {at : ℕ} where
   -- it is written
   pub gap-put : {left : List ℕ} {next : ℕ} → from < to → Put room at (encode (unknown (gapOf from to c))) 37 left next → Put room at (encodeAll (gapForms (coverOf c) from to)) (gapSize from to) left next

@@ -82,13 +82,6 @@ wrote-behind l at vs i p h =
     let y : n + j ≡ i = omega arith in
     ap (λ (k : ℕ). getD (head ++ drop n l) k 0) z ∙ getD-append-add head (drop n l) j 0 ∙ getD-drop n l j 0 ∙ ap (λ (k : ℕ). getD l k 0) y
 
--- so a field that it does not meet is as it was
-pub wrote-keeps-before : (n : ℕ) (l : List ℕ) (at : ℕ) (vs : List ℕ) (i : ℕ) → Inside at (length vs) l → i + n ≤ at → field n (wrote l at vs) i ≡ field n l i
-wrote-keeps-before n l at vs i p h = field-same n (wrote l at vs) l i i (λ k b. wrote-before l at vs (i + k) p (omega arith))
-
-pub wrote-keeps-behind : (n : ℕ) (l : List ℕ) (at : ℕ) (vs : List ℕ) (i : ℕ) → Inside at (length vs) l → at + length vs ≤ i → field n (wrote l at vs) i ≡ field n l i
-wrote-keeps-behind n l at vs i p h = field-same n (wrote l at vs) l i i (λ k b. wrote-behind l at vs (i + k) p (omega arith))
-
 -- what was written is read back
 pub wrote-field : (n : ℕ) (l : List ℕ) (at x : ℕ) → Inside at n l → field n (wrote l at (bytes n x)) at ≡ x % 256 ^ n
 unfolding wrote

@@ -6,10 +6,9 @@ use Prim.Native.Nat.{ℕ, _+_, _-_, _*_, _^_, _≤_, _<_}
 use native.Mathlib.Nat.{mod-eq-of-lt}
 use native.Mathlib.Omega.{arith}
 use lib.Dec.{lit≤}
-use lib.IntN.{ℤ}
 use mir.Syntax.{w64}
 use Rattle.wire.specs.Signs.{meant}
-use Rattle.wire.proofs.Signs.{origin, counted, counted-once, between-yes, between-low, between-high, between-found}
+use Rattle.wire.proofs.Signs.{origin, counted, counted-once, between-yes, between-low, between-high}
 use Rattle.calendar.specs.Answers.{lastDay, zeroDay}
 use Rattle.zone.specs.Units.{dayNs, mostNs, offsetNs, instantNumber, firstInstant, lastInstant, firstReading, lastReading, nearestInstant, nearestReading, readingDay, readingTime, readingAt}
 use Rattle.zone.specs.Zone.{Zone, zoneOf, offsetAt, Reads, readingOf, dateAt, resolve}
@@ -36,10 +35,6 @@ within-low p h = between-low w64 (zeroDay * dayNs) (lit≤ tt) firstInstant last
 
 pub within-high : (p : ℕ) → lastInstant + instantZero < p → within (meant w64 p) ≡ none
 within-high p h = between-high w64 (zeroDay * dayNs) (lit≤ tt) firstInstant lastInstant p h
-
--- an instant that was found for a number has it, and is one in use
-pub within-instant : (t : ℕ) (n : ℤ) → some (instantNumber t) ≡ within n → (instantNumber t ≡ n) × (firstInstant ≤ t) × (t ≤ lastInstant)
-within-instant t n e = between-found w64 (zeroDay * dayNs) (lit≤ tt) firstInstant lastInstant t n e
 
 pub number-once : (s t : ℕ) → instantNumber s ≡ instantNumber t → s ≡ t
 number-once s t e = counted-once w64 (zeroDay * dayNs) (lit≤ tt) s t e
