@@ -22,9 +22,9 @@ use Rattle.records.specs.Book.{inside, seconds, spacing, kindAt, nextAt, badFra
 use Rattle.records.specs.Frame.{Framed, itemsAt}
 use Rattle.book.specs.Private.{badItem, badFrom, Room, seen, oneMore}
 use Rattle.records.proofs.Tests.{or-false, outside-test}
-use Rattle.records.proofs.Frames.{Kind, one, two, three, four, kind-of, framed}
-use Rattle.records.proofs.Frames.{is-one, is-two, is-three, is-four}
-use Rattle.book.proofs.Items.{Looked, looked-bad, looked-good, looked-time, looked-all, looked-falls, items-bad, items-fall, item-room}
+use Rattle.records.proofs.Frames.{Kind, one, two, three, four, kind-of, framed, few-items, is-one, is-two, is-three, is-four}
+use Rattle.book.proofs.Judging.{never-late, never-reversed, no-coverage}
+use Rattle.book.proofs.Items.{Looked, looked-none, looked-bad, looked-good, looked-time, looked-all, looked-falls, items-bad, items-fall, item-room}
 use Rattle.records.proofs.Cascade.{all-passed, number-2, number-3, number-4, number-5, number-6, number-7, number-8, number-9}
 
 -- ---- the records before, as the code keeps them
@@ -255,20 +255,19 @@ module _ {s : List ℕ} {at : ℕ} {t : Seen} {k : ℕ} (n : Known s at t k) whe
 
   -- ---- 9
 
-  pub close-is : (eqb k 2 && ltb (turned w64 (number transitionInstant s at)) (t .least)) ≡ tooClose earlier r
-  close-is = go (kind-of s at k (n .frame) (n .kind))
-    where
-      other : (j : ℕ) → k ≡ j → eqb j 2 ≡ false → (eqb k 2 && ltb (turned w64 (number transitionInstant s at)) (t .least)) ≡ false
-      other j i z = ap (λ (m : ℕ). eqb m 2 && ltb (turned w64 (number transitionInstant s at)) (t .least)) i ∙ ap (λ (b : Bool). b && ltb (turned w64 (number transitionInstant s at)) (t .least)) z
+  close-is : k ≡ 2 → ltb (turned w64 (number transitionInstant s at)) (t .least) ≡ tooClose earlier r
+  close-is i =
+      closer-by (lastInstant earlier) (t .least) (turned w64 (number transitionInstant s at)) (n .here .counts .least)
+      ∙ sym (ap (tooClose earlier) (is-two s at k (n .frame) (n .kind) i))
 
-      go : Kind k → (eqb k 2 && ltb (turned w64 (number transitionInstant s at)) (t .least)) ≡ tooClose earlier r
-      go (one i) = other 1 i refl ∙ sym (ap (tooClose earlier) (is-one s at k (n .frame) (n .kind) i))
-      go (two i) =
-          ap (λ (m : ℕ). eqb m 2 && ltb (turned w64 (number transitionInstant s at)) (t .least)) i
-          ∙ closer-by (lastInstant earlier) (t .least) (turned w64 (number transitionInstant s at)) (n .here .counts .least)
-          ∙ sym (ap (tooClose earlier) (is-two s at k (n .frame) (n .kind) i))
-      go (three i) = other 3 i refl ∙ sym (ap (tooClose earlier) (is-three s at k (n .frame) (n .kind) i))
-      go (four i) = other 4 i refl ∙ sym (ap (tooClose earlier) (is-four s at k (n .frame) (n .kind) i))
+  never-close : (k ≡ 2 → ⊥) → tooClose earlier r ≡ false
+  never-close ne = go (kind-of s at k (n .frame) (n .kind))
+    where
+      go : Kind k → tooClose earlier r ≡ false
+      go (one i) = ap (tooClose earlier) (is-one s at k (n .frame) (n .kind) i)
+      go (two i) = absurd (ne i)
+      go (three i) = ap (tooClose earlier) (is-three s at k (n .frame) (n .kind) i)
+      go (four i) = ap (tooClose earlier) (is-four s at k (n .frame) (n .kind) i)
 
   -- ---- one more
 
@@ -399,13 +398,11 @@ module _ {s : List ℕ} {at : ℕ} {t : Seen} {k n i item least : ℕ} {fell : B
           covers-8 e = by-number kn 8 (number-8 base (earlier kn) (r kn) (p .headed) (p .few) within h5 (sym falls-is ∙ h6) h7 e) (omega arith)
 
           module _ (h8 : coversNothing (r kn) ≡ false) where
-            pub close-9 : (eqb k 2 && ltb (turned w64 (number transitionInstant s at)) (t .least)) ≡ true → 9 ≡ refusal base s
-            close-9 e =
-                by-number kn 9 (number-9 base (earlier kn) (r kn) (p .headed) (p .few) within h5 (sym falls-is ∙ h6) h7 h8 (sym (close-is kn) ∙ e)) (omega arith)
+            close-9 : tooClose (earlier kn) (r kn) ≡ true → 9 ≡ refusal base s
+            close-9 e = by-number kn 9 (number-9 base (earlier kn) (r kn) (p .headed) (p .few) within h5 (sym falls-is ∙ h6) h7 h8 e) (omega arith)
 
             -- every test is passed
-            pub on-all : (eqb k 2 && ltb (turned w64 (number transitionInstant s at)) (t .least)) ≡ false
-                → (t′ : Seen) → t′ ≡ oneMore s at t → (next : ℕ) → next ≡ nextAt s at → Here s next t′
+            on-all : tooClose (earlier kn) (r kn) ≡ false → (t′ : Seen) → t′ ≡ oneMore s at t → (next : ℕ) → next ≡ nextAt s at → Here s next t′
             on-all h9 t′ e next to =
                 on (kn .here) (kn .ne) (kn .frame)
                 (number-at kn 0
@@ -418,6 +415,32 @@ module _ {s : List ℕ} {at : ℕ} {t : Seen} {k n i item least : ℕ} {fell : B
                   rising = sym falls-is ∙ h6;
                   forward = h7;
                   covering = h8;
-                  apart = sym (close-is kn) ∙ h9;
+                  apart = h9;
                 })))
                 t′ (counts-on kn (p .headed) (p .few) t′ e) next to
+
+            -- no transition
+            pub on-other : (k ≡ 2 → ⊥) → (t′ : Seen) → t′ ≡ oneMore s at t → (next : ℕ) → next ≡ nextAt s at → Here s next t′
+            on-other ne = on-all (never-close kn ne)
+
+-- ---- a transition: it has no points, and of the tests behind its fields only the last can fail
+
+module _ {s : List ℕ} {at : ℕ} {t : Seen} {k : ℕ} (n : Known s at t k) (i : k ≡ 2) (h2 : headless (earlier n) (r n) ≡ false) (h3 : tooMany base (earlier n) (r n) ≡ false) (h4 : badFields base (r n) ≡ false) where
+  abbrev looking : Looking s at t k 0 0 at 0 false
+  looking =
+      record { known = n; headed = h2; few = h3; fields = h4; many = few-items s at k (n .frame) (n .kind) (omega arith); looked = looked-none s k at 0 }
+
+  h5 : lateStart (r n) ≡ false
+  h5 = sym (never-late s at k (n .frame) (n .kind) (λ q. omega arith))
+
+  h7 : reversed (r n) ≡ false
+  h7 = sym (never-reversed s at k (n .frame) (n .kind) (omega arith))
+
+  h8 : coversNothing (r n) ≡ false
+  h8 = sym (no-coverage s at k (n .frame) (n .kind) (λ q. omega arith))
+
+  pub transition-9 : ltb (turned w64 (number transitionInstant s at)) (t .least) ≡ true → 9 ≡ refusal base s
+  transition-9 e = close-9 looking (omega arith) h5 refl h7 h8 (sym (close-is n i) ∙ e)
+
+  pub on-transition : ltb (turned w64 (number transitionInstant s at)) (t .least) ≡ false → (t′ : Seen) → t′ ≡ oneMore s at t → (next : ℕ) → next ≡ nextAt s at → Here s next t′
+  on-transition h9 = on-all looking (omega arith) h5 refl h7 h8 (sym (close-is n i) ∙ h9)

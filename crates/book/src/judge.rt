@@ -1,8 +1,8 @@
 // The tests of one record, each for a line of document 01's table of numbers.
 ghost use Prim.Native.Nat.{_+_, _*_, _≤_, _<_};
 ghost use mathlib.Core.Path.{_≡_};
-ghost use mathlib.Core.Bool.{not, _&&_};
-ghost use lib.Dec.{ltb, leb, eqb};
+ghost use mathlib.Core.Bool.{not};
+ghost use lib.Dec.{ltb, leb};
 ghost use lib.ListN.{length};
 ghost use mir.Syntax.{w32, w64};
 ghost use Rattle.wire.specs.Fields.{Inside, field};
@@ -10,14 +10,13 @@ ghost use Rattle.wire.specs.Signs.{turned, signed};
 ghost use Rattle.records.specs.Layout.{number, integer, count, time, step, transitionInstant, dayFirst, dayLast};
 ghost use Rattle.records.specs.Limits.{base};
 ghost use Rattle.records.specs.Records.{coverage, transition, rule, event, recordAt, coverageAt, transitionAt, ruleAt, eventAt, publishedAt};
-ghost use Rattle.records.specs.Book.{kindAt, lengthOf, badFrame, badFields, badUncertainty, badDays, inside, most, lateStart, reversed, coversNothing};
+ghost use Rattle.records.specs.Book.{kindAt, badFrame, badFields, badUncertainty, badDays, inside, most, lateStart, reversed, coversNothing};
 ghost use Rattle.records.specs.Frame.{Framed, itemsAt};
 ghost use Rattle.records.specs.Frame.{placedRange};
 ghost use Rattle.book.specs.Private.{Room, badItem, seen, oneMore};
 use records::*;
 use wire::get1;
 use wire::get2;
-use wire::get4;
 use wire::get8;
 use wire::signed4;
 use wire::signed8;
@@ -96,18 +95,6 @@ fn byte_or_0(book: &[u8], p: usize) -> u8
     if p < book.len() { get1(book, p) } else { 0 }
 }
 
-// The length of a record of a kind, with n points or times.
-fn length_of(kind: u16, n: u8) -> usize
-    ensures { λ r. ⌜ r ≡ lengthOf kind n ⌝ }
-{
-    match kind {
-        1 => 22,
-        2 => 14,
-        3 => 30 + 9 * (n as usize),
-        _ => 26 + 8 * (n as usize),
-    }
-}
-
 // 2: a length that is wrong or runs past the end, an unknown kind.
 pub(crate) fn bad_frame(book: &[u8], at: usize) -> bool
     requires { ⌜ (at ≤ length (now book)) × (length (now book) ≤ base .bytes) ⌝ }
@@ -117,10 +104,17 @@ pub(crate) fn bad_frame(book: &[u8], at: usize) -> bool
         return true;
     }
     let size = get2(book, at) as usize;
+    if book.len() < at + 2 + size {
+        return true;
+    }
     let kind = get2(book, at + KIND);
-    let n = byte_or_0(book, at + count_place(kind));
-    (book.len() < at + 2 + size)
-        | (((kind < COVERAGE) | (EVENT < kind)) | (size != length_of(kind, n)))
+    match kind {
+        1 => size != 22,
+        2 => size != 14,
+        3 => size != 30 + 9 * (byte_or_0(book, at + count_place(RULE)) as usize),
+        4 => size != 26 + 8 * (byte_or_0(book, at + count_place(EVENT)) as usize),
+        _ => true,
+    }
 }
 
 // 3: too many of a kind.
@@ -275,13 +269,10 @@ pub(crate) fn covers_nothing(book: &[u8], at: usize, kind: u16) -> bool
 }
 
 // 9: a transition before the earliest second that it may have.
-pub(crate) fn too_close(book: &[u8], at: usize, kind: u16, least: u64) -> bool
-    requires { ⌜ Framed (now book) at × (kind ≡ kindAt (now book) at) ⌝ }
-    ensures { λ r. ⌜ r ≡ (eqb kind 2 && ltb (turned w64 (number transitionInstant (now (book .entry)) at)) least) ⌝ }
+pub(crate) fn too_close(book: &[u8], at: usize, least: u64) -> bool
+    requires { ⌜ Inside at 16 (now book) ⌝ }
+    ensures { λ r. ⌜ r ≡ ltb (turned w64 (number transitionInstant (now (book .entry)) at)) least ⌝ }
 {
-    if kind != TRANSITION {
-        return false;
-    }
     signed8(book, at + TRANSITION_INSTANT).0 < least
 }
 

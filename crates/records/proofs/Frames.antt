@@ -1,12 +1,12 @@
 -- What a record whose length is right holds. Assumes nothing.
-use mathlib.Core.Path.{_≡_, sym, ap, _∙_}
+use mathlib.Core.Path.{_≡_, refl, sym, ap, _∙_}
 use mathlib.Core.Bool.{Bool, true, false, not, cond, _||_}
 use mathlib.Core.List.{List}
 use Prim.Native.Nat.{ℕ, _+_, _*_, _-_, _≤_, _<_}
 use native.Mathlib.Nat.{add-zero}
 use native.Mathlib.Decide.{ℕ-discrete}
 use native.Mathlib.Omega.{arith}
-use borrow.Author.Tests.{lt-ltb, le-ltb, ltb-false, eqb-true, not-false}
+use borrow.Author.Tests.{le-ltb, ltb-false, eqb-true, not-false}
 use lib.ListN.{length}
 use lib.Dec.{ltb, eqb}
 use Rattle.wire.specs.Fields.{field}
@@ -18,23 +18,8 @@ use Rattle.records.proofs.Tests.{or-false}
 
 -- ---- the frame
 
-pub frame-short : (s : List ℕ) (at : ℕ) → length s < at + 4 → true ≡ badFrame s at
-unfolding badFrame
-frame-short s at h = simp (lt-ltb (length s) (at + 4) h)
-
 pub size-by : (s : List ℕ) (at z : ℕ) → z ≡ field 2 s at → z ≡ number size s at
 size-by s at z a = a ∙ ap (field 2 s) (sym (add-zero at))
-
--- the test, as the code reads it
-pub frame-by : (s : List ℕ) (at : ℕ) → at + 4 ≤ length s → (z k p n l : ℕ)
-    → z ≡ field 2 s at → k ≡ kindAt s at → p ≡ count k .from → n ≡ field 1 s (at + p) → l ≡ lengthOf k n
-    → (ltb (length s) (at + 2 + z) || ((ltb k 1 || ltb 4 k) || not (eqb z l))) ≡ badFrame s at
-unfolding badFrame
-frame-by s at h z k p n l a b c d e =
-    let q : n ≡ number (count k) s at = d ∙ ap (λ (i : ℕ). field 1 s (at + i)) c in
-    let m : l ≡ lengthOf (kindAt s at) (number (count (kindAt s at)) s at) = e ∙ ap (lengthOf k) q ∙ ap (λ (i : ℕ). lengthOf i (number (count i) s at)) b in
-    let y : z ≡ number size s at = size-by s at z a in
-    rw (le-ltb (length s) (at + 4) h, m, b, y)
 
 pub framed : (s : List ℕ) (at : ℕ) → badFrame s at ≡ false → Framed s at
 unfolding badFrame
@@ -50,6 +35,26 @@ framed s at e =
       whole = ltb-false _ _ (q .1);
       sized = eqb-true _ _ (not-false _ (r .1));
     }
+
+-- the test, as the code reads it: a record whose length is not right
+pub unframed : (s : List ℕ) (at : ℕ) → (Framed s at → ⊥) → true ≡ badFrame s at
+unframed s at n = go (badFrame s at) refl
+  where
+    go : (q : Bool) → badFrame s at ≡ q → true ≡ badFrame s at
+    go true e = sym e
+    go false e = absurd (n (framed s at e))
+
+-- of a known kind, where the bytes go so far
+pub frame-sized : (s : List ℕ) (at : ℕ) → at + 4 ≤ length s → (z k l : ℕ) → z ≡ field 2 s at → at + 2 + z ≤ length s → k ≡ kindAt s at → 1 ≤ k → k ≤ 4
+    → l ≡ lengthOf k (number (count k) s at) → not (eqb z l) ≡ badFrame s at
+unfolding badFrame
+frame-sized s at h z k l a w b low high e =
+    let y : z ≡ number size s at = size-by s at z a in
+    let m : l ≡ lengthOf (kindAt s at) (number (count (kindAt s at)) s at) = e ∙ ap (λ (i : ℕ). lengthOf i (number (count i) s at)) b in
+    let n : ltb (length s) (nextAt s at) ≡ false = le-ltb (length s) (nextAt s at) (omega arith) in
+    let p : ltb (kindAt s at) 1 ≡ false = le-ltb (kindAt s at) 1 (omega arith) in
+    let q : ltb 4 (kindAt s at) ≡ false = le-ltb 4 (kindAt s at) (omega arith) in
+    rw (le-ltb (length s) (at + 4) h, n, p, q, m, y)
 
 -- a kind is 1, 2, 3 or 4
 pub data Kind (k : ℕ) : Type 0 where
@@ -78,6 +83,9 @@ module _ (s : List ℕ) (at k : ℕ) (f : Framed s at) (e : k ≡ kindAt s at) w
 
   pub room2 : k ≡ 2 → at + 16 ≤ length s
   room2 i = let z : number size s at ≡ 14 = rw i at sized in omega (arith, f .whole)
+
+  pub next2 : k ≡ 2 → at + 16 ≡ nextAt s at
+  next2 i = let z : number size s at ≡ 14 = rw i at sized in omega arith
 
   pub room3 : k ≡ 3 → at + 32 + 9 * number (count 3) s at ≤ length s
   room3 i = let z : number size s at ≡ 30 + 9 * number (count 3) s at = rw i at sized in omega (arith, f .whole)

@@ -26,6 +26,8 @@ pub const TRANSITION_INSTANT: usize = 4;
 
 pub const TRANSITION_OFFSET: usize = 12;
 
+pub const TRANSITION_BYTES: usize = 16;
+
 // Rules and events.
 pub const DAY_FIRST: usize = 4;
 

@@ -21,6 +21,7 @@ pub use fields::RULE_EVIDENCE;
 pub use fields::RULE_LABEL;
 pub use fields::RULE_MASK;
 pub use fields::TRANSITION;
+pub use fields::TRANSITION_BYTES;
 pub use fields::TRANSITION_INSTANT;
 pub use fields::TRANSITION_OFFSET;
 pub use fields::count_place;

@@ -17,12 +17,14 @@ use Rattle.zone.specs.Units.{secondNs, dayNs}
 use Rattle.records.specs.Layout.{number, coverageStart, coverageEnd, coverageOffset}
 use Rattle.records.specs.Limits.{base}
 use Rattle.records.specs.Records.{Record, coverage, coverageAt, recordAt, kindOf}
-use Rattle.records.specs.Book.{inside, instants, offsets, kindAt, nextAt, many, badFields, refusal, recordsFrom, records}
+use Rattle.records.specs.Book.{inside, instants, offsets, kindAt, nextAt, badFields, refusal, recordsFrom, records}
 use Rattle.records.specs.Frame.{Framed}
 use Rattle.records.proofs.Tests.{or-false, inside-range}
 use Rattle.records.proofs.Frames.{is-one, room1}
 use Rattle.venue.specs.Opening.{instantOf, coverageOf, transitionsOf, atsOf, offsetsOf, placesFrom, places, opened, stored}
 use Rattle.venue.specs.declared.opened.Opened.the-variants.{Refused, Empty, Venue}
+use Rattle.venue.specs.declared.opened.Counts.{Counts}
+use Rattle.venue.specs.Private.{countsOf}
 use Rattle.venue.proofs.Passing.{Ahead, ahead-start, ahead-next, no-turns, one-record, kind-here}
 
 -- ---- refused
@@ -118,21 +120,21 @@ module _ (s : List ℕ) (e : refusal base s ≡ 0) (ne : length s ≡ 0 → ⊥)
   instant-kept : (p : ℕ) → half w64 - 2177452800 * secondNs ≤ p → p - (half w64 - 2209593600 * secondNs) ≡ instantOf (meant w64 p)
   instant-kept p l = sym (since-meant w64 (zeroDay * dayNs) p (omega arith) (omega arith))
 
-  pub venue-answer : (a b o t r v : ℕ) → a ≡ turned w64 (number coverageStart s 0) → b ≡ turned w64 (number coverageEnd s 0) → o ≡ turned w32 (number coverageOffset s 0)
-      → t ≡ many 2 (records s) → r ≡ many 3 (records s) → v ≡ many 4 (records s)
+  pub venue-answer : (a b o : ℕ) (n : Counts) → a ≡ turned w64 (number coverageStart s 0) → b ≡ turned w64 (number coverageEnd s 0) → o ≡ turned w32 (number coverageOffset s 0)
+      → n ≡ countsOf (records s)
       → Venue
       (record {
         start = record { 0 = a - (half w64 - 2209593600 * secondNs) };
         end = record { 0 = b - (half w64 - 2209593600 * secondNs) };
         first = o - (half w32 - 57600);
-        transitions = t;
-        rules = r;
-        events = v;
+        transitions = n .transitions;
+        rules = n .rules;
+        events = n .events;
       })
       ≡ opened s
   unfolding opened
-  venue-answer a b o t r v qa qb qo qt qr qv =
+  venue-answer a b o n qa qb qo qn =
       let i = instant-kept (turned w64 (number coverageStart s 0)) (head .start-low) in
       let j = instant-kept (turned w64 (number coverageEnd s 0)) (head .end-low) in
       let k = sym (since-meant w32 57600 (turned w32 (number coverageOffset s 0)) (omega arith) (head .offset-low)) in
-      rw (qa, qb, qo, qt, qr, qv, i, j, k, head .is, e)
+      rw (qa, qb, qo, qn, i, j, k, head .is, e)

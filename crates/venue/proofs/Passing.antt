@@ -25,7 +25,8 @@ use Rattle.records.proofs.Frames.{Kind, one, two, three, four, kind-of, framed,
 use Rattle.records.proofs.Cascade.{passed, Passed, passed-all}
 use Rattle.records.proofs.Following.{many-moved, many-same, many-other, many-room}
 use Rattle.venue.specs.Opening.{secondsInstant, offsetOf, transitionsOf, atsOf, offsetsOf, placesFrom, places}
-use Rattle.venue.specs.Private.{Fitting}
+use Rattle.venue.specs.declared.opened.Counts.{Counts}
+use Rattle.venue.specs.Private.{Fitting, countsOf}
 
 -- ---- the records of an accepted book, one after the other
 
@@ -192,83 +193,38 @@ storing-end {room} {now} {all} {n} p = sym (p .same ∙ wrote-nothing now n)
 
 -- ---- the places of a kind
 
-pub record Placing (k : ℕ) (s room now : List ℕ) (at n : ℕ) : Type 0 where
-  pub turns : ℕ
-  pub before : List Record
-  pub ahead : Ahead s at turns before
+-- n records of kind k stand before `at`, and those from there on are still to be stored
+pub record Placing (k : ℕ) (s room now : List ℕ) (turns at n : ℕ) : Type 0 where
   pub total : n + many k (recordsFrom s turns at) ≡ many k (records s)
   pub storing : Storing room now n (places k s) (placesFrom k s turns at)
 
-pub place-start : (k : ℕ) (s room : List ℕ) → Fitting k s room → Placing k s room room 0 0
+place-start : (k : ℕ) (s room : List ℕ) → refusal base s ≡ 0 → most base k ≤ length room → Placing k s room room (length s) 0 0
 unfolding records
-place-start k s room f =
-    let a = ahead-start s (f .accepted) in
-    let m = places-many k (length s) a in
-    record {
-      turns = length s;
-      before = [];
-      ahead = a;
-      total = omega arith;
-      storing = storing-start room (places k s) (omega (arith, f .fits));
-    }
+place-start k s room e l =
+    let m = places-many k (length s) (ahead-start s e) in
+    record { total = omega arith; storing = storing-start room (places k s) (omega (arith, few-records k s e)) }
 
-module _ {k : ℕ} {s room now : List ℕ} {at n : ℕ} where
-  module _ (h : at < length s) where
-    place-by : (turns : ℕ) (before : List Record) → Ahead s at turns before → n + many k (recordsFrom s turns at) ≡ many k (records s)
-        → Storing room now n (places k s) (placesFrom k s turns at)
-        → Framed s at
-        × (kindAt s at ≡ k → n < length now)
-        × (kindAt s at ≡ k → Placing k s room (set now n at) (nextAt s at) (n + 1))
-        × ((kindAt s at ≡ k → ⊥) → Placing k s room now (nextAt s at) n)
-    place-by zero before a t st = absurd (no-turns a h)
-    place-by (suc g) before a t st =
-        let next = ahead-next a h in (
-          next .frame,
-          (λ e. let l = ap length (one-place s at g h k e) in let f = st .fits in omega arith),
-          (λ e.
-              record {
-                turns = g;
-                before = recordAt s at ∷ before;
-                ahead = next .ahead;
-                total = let m = one-many s at g h (next .frame) k e in omega arith;
-                storing = storing-one at _ (rw (one-place s at g h k e) at st);
-              }),
-          (λ e.
-              record {
-                turns = g;
-                before = recordAt s at ∷ before;
-                ahead = next .ahead;
-                total = let m = no-many s at g h (next .frame) k e in omega arith;
-                storing = rw (no-place s at g h k e) at st;
-              }),
-        )
+module _ {k : ℕ} {s room now : List ℕ} {g at n : ℕ} (h : at < length s) (f : Framed s at) (p : Placing k s room now (suc g) at n) where
+  place-room : kindAt s at ≡ k → n < length now
+  place-room e = let l = ap length (one-place s at g h k e) in let r = p .storing .fits in omega arith
 
-  module _ (p : Placing k s room now at n) where
-    module _ (h : at < length s) where
-      abbrev all : Framed s at
-          × (kindAt s at ≡ k → n < length now)
-          × (kindAt s at ≡ k → Placing k s room (set now n at) (nextAt s at) (n + 1))
-          × ((kindAt s at ≡ k → ⊥) → Placing k s room now (nextAt s at) n)
-      all = place-by h (p .turns) (p .before) (p .ahead) (p .total) (p .storing)
+  place-one : kindAt s at ≡ k → Placing k s room (set now n at) g (nextAt s at) (n + 1)
+  place-one e =
+      let m = one-many s at g h f k e in
+      let t = p .total in
+      record { total = omega arith; storing = storing-one at _ (rw (one-place s at g h k e) at (p .storing)) }
 
-      pub place-frame : Framed s at
-      place-frame = all .0
+  place-none : (kindAt s at ≡ k → ⊥) → Placing k s room now g (nextAt s at) n
+  place-none e =
+      let m = no-many s at g h f k e in
+      let t = p .total in
+      record { total = omega arith; storing = rw (no-place s at g h k e) at (p .storing) }
 
-      pub place-room : kindAt s at ≡ k → n < length now
-      place-room = all .1
-
-      module _ {next n′ : ℕ} {now′ : List ℕ} (to : next ≡ nextAt s at) where
-        pub place-one : kindAt s at ≡ k → now′ ≡ set now n at → n′ ≡ n + 1 → Placing k s room now′ next n′
-        place-one e q r = rw (to, q, r) (all .2 e)
-
-        pub place-none : (kindAt s at ≡ k → ⊥) → now′ ≡ now → n′ ≡ n → Placing k s room now′ next n′
-        place-none e q r = rw (to, q, r) (all .3 e)
-
-    pub place-end : length s ≤ at → (n ≡ many k (records s)) × (now ≡ wrote room 0 (places k s))
-    place-end h =
-        let m = ap (many k) (no-records s at (p .turns) h) in
-        let t = p .total in
-        (omega arith, storing-end (rw (no-places s at k (p .turns) h) at (p .storing)))
+place-end : {k : ℕ} {s room now : List ℕ} {turns at n : ℕ} → Placing k s room now turns at n → length s ≤ at → (n ≡ many k (records s)) × (now ≡ wrote room 0 (places k s))
+place-end {k} {s} {room} {now} {turns} {at} p h =
+    let m = ap (many k) (no-records s at turns h) in
+    let t = p .total in
+    (omega arith, storing-end (rw (no-places s at k turns h) at (p .storing)))
 
 -- ---- the clock changes
 
@@ -320,10 +276,8 @@ module _ {s : List ℕ} {at : ℕ} (r : Ranged s at) where
       ap (λ (i : ℕ). i - (half w32 - 57600)) e
       ∙ sym (since-meant w32 57600 (turned w32 (number transitionOffset s at)) (omega arith) (r .offset-low))
 
-pub record Changing (s ats ats′ offsets offsets′ : List ℕ) (at n : ℕ) : Type 0 where
-  pub turns : ℕ
-  pub before : List Record
-  pub ahead : Ahead s at turns before
+-- n clock changes stand before `at`, and those from there on are still to be stored
+pub record Changing (s ats ats′ offsets offsets′ : List ℕ) (turns at n : ℕ) : Type 0 where
   pub total : n + many 2 (recordsFrom s turns at) ≡ many 2 (records s)
   pub to-ats : Storing ats ats′ n (atsOf (records s)) (atsOf (recordsFrom s turns at))
   pub to-offsets : Storing offsets offsets′ n (offsetsOf (records s)) (offsetsOf (recordsFrom s turns at))
@@ -334,77 +288,176 @@ ats-many rs = length-map _ (transitionsOf rs) ∙ transitions-many rs
 pub offsets-many : (rs : List Record) → length (offsetsOf rs) ≡ many 2 rs
 offsets-many rs = length-map _ (transitionsOf rs) ∙ transitions-many rs
 
-pub change-start : (s ats offsets : List ℕ) → Fitting 2 s ats → length offsets ≡ length ats → Changing s ats ats offsets offsets 0 0
+change-start : (s ats offsets : List ℕ) → refusal base s ≡ 0 → base .transitions ≤ length ats → base .transitions ≤ length offsets
+    → Changing s ats ats offsets offsets (length s) 0 0
 unfolding records
-change-start s ats offsets f e =
+change-start s ats offsets e l m =
+    let f = few-records 2 s e in
+    record {
+      total = omega arith;
+      to-ats = storing-start ats (atsOf (records s)) (omega (arith, ats-many (records s)));
+      to-offsets = storing-start offsets (offsetsOf (records s)) (omega (arith, offsets-many (records s)));
+    }
+
+module _ {s ats ats′ offsets offsets′ : List ℕ} {g at n : ℕ} (h : at < length s) (f : Framed s at) (p : Changing s ats ats′ offsets offsets′ (suc g) at n) where
+  change-room : kindAt s at ≡ 2 → (n < length ats′) × (n < length offsets′)
+  change-room e =
+      let o = one-many s at g h f 2 e in
+      let l = ats-many (recordsFrom s (suc g) at) in
+      let m = offsets-many (recordsFrom s (suc g) at) in
+      let a = p .to-ats .fits in
+      let b = p .to-offsets .fits in
+      (omega arith, omega arith)
+
+  change-one : kindAt s at ≡ 2
+      → Changing s ats (set ats′ n (secondsInstant (transitionAt s at .at))) offsets (set offsets′ n (offsetOf (transitionAt s at .offset))) g (nextAt s at) (n + 1)
+  change-one e =
+      let o = one-many s at g h f 2 e in
+      let t = p .total in
+      record {
+        total = omega arith;
+        to-ats = storing-one _ _ (rw (one-change s at g h f e) at (p .to-ats));
+        to-offsets = storing-one _ _ (rw (one-change s at g h f e) at (p .to-offsets));
+      }
+
+  change-none : (kindAt s at ≡ 2 → ⊥) → Changing s ats ats′ offsets offsets′ g (nextAt s at) n
+  change-none e =
+      let o = no-many s at g h f 2 e in
+      let t = p .total in
+      record { total = omega arith; to-ats = rw (no-change s at g h f e) at (p .to-ats); to-offsets = rw (no-change s at g h f e) at (p .to-offsets) }
+
+change-end : {s ats ats′ offsets offsets′ : List ℕ} {turns at n : ℕ} → Changing s ats ats′ offsets offsets′ turns at n → length s ≤ at
+    → (n ≡ many 2 (records s)) × (ats′ ≡ wrote ats 0 (atsOf (records s))) × (offsets′ ≡ wrote offsets 0 (offsetsOf (records s)))
+unfolding transitionsOf
+change-end {s} {ats} {ats′} {offsets} {offsets′} {turns} {at} p h =
+    let m = ap (many 2) (no-records s at turns h) in
+    let t = p .total in
+    (omega arith, storing-end (rw (no-records s at turns h) at (p .to-ats)), storing-end (rw (no-records s at turns h) at (p .to-offsets)))
+
+-- ---- all of them in one pass
+
+pub record Passing (s ats ats′ offsets offsets′ rules rules′ events events′ : List ℕ) (at change rule event : ℕ) : Type 0 where
+  pub turns : ℕ
+  pub before : List Record
+  pub ahead : Ahead s at turns before
+  pub changing : Changing s ats ats′ offsets offsets′ turns at change
+  pub ruling : Placing 3 s rules rules′ turns at rule
+  pub eventing : Placing 4 s events events′ turns at event
+
+pub pass-start : (s ats offsets rules events : List ℕ) → Fitting s ats offsets rules events → Passing s ats ats offsets offsets rules rules events events 0 0 0 0
+pass-start s ats offsets rules events f =
     record {
       turns = length s;
       before = [];
       ahead = ahead-start s (f .accepted);
-      total = omega arith;
-      to-ats = storing-start ats (atsOf (records s)) (omega (arith, f .fits, ats-many (records s)));
-      to-offsets = storing-start offsets (offsetsOf (records s)) (omega (arith, f .fits, offsets-many (records s)));
+      changing = change-start s ats offsets (f .accepted) (f .ats-long) (f .offsets-long);
+      ruling = place-start 3 s rules (f .accepted) (f .rules-long);
+      eventing = place-start 4 s events (f .accepted) (f .events-long);
     }
 
--- what holds at a record: its length is right; if it is a clock change, it is in its ranges and there is room for it; and so on behind it
-pub record ChangeHere (s ats ats′ offsets offsets′ : List ℕ) (at n : ℕ) : Type 0 where
-  pub frame : Framed s at
-  pub range : kindAt s at ≡ 2 → Ranged s at
-  pub room-ats : kindAt s at ≡ 2 → n < length ats′
-  pub room-offsets : kindAt s at ≡ 2 → n < length offsets′
-  pub stored : kindAt s at ≡ 2
-      → Changing s ats (set ats′ n (secondsInstant (transitionAt s at .at))) offsets (set offsets′ n (offsetOf (transitionAt s at .offset))) (nextAt s at) (n + 1)
-  pub passed-by : (kindAt s at ≡ 2 → ⊥) → Changing s ats ats′ offsets offsets′ (nextAt s at) n
+-- what holds where a record stands
+pub record Standing (s ats ats′ offsets offsets′ rules rules′ events events′ : List ℕ) (at change rule event : ℕ) : Type 0 where
+  pub turns : ℕ
+  pub before : List Record
+  pub next : Next s at turns before
+  pub inside : at < length s
+  pub small : length s ≤ base .bytes
+  pub changing : Changing s ats ats′ offsets offsets′ (suc turns) at change
+  pub ruling : Placing 3 s rules rules′ (suc turns) at rule
+  pub eventing : Placing 4 s events events′ (suc turns) at event
 
-change-by : {s ats ats′ offsets offsets′ : List ℕ} {at n : ℕ} → at < length s → (turns : ℕ) (before : List Record) → Ahead s at turns before
-    → n + many 2 (recordsFrom s turns at) ≡ many 2 (records s) → Storing ats ats′ n (atsOf (records s)) (atsOf (recordsFrom s turns at))
-    → Storing offsets offsets′ n (offsetsOf (records s)) (offsetsOf (recordsFrom s turns at)) → ChangeHere s ats ats′ offsets offsets′ at n
-change-by h zero before a t sa so = absurd (no-turns a h)
-change-by {s} {ats} {ats′} {offsets} {offsets′} {at} {n} h (suc g) before a t sa so =
-    let next = ahead-next a h in
-    let l = ats-many (recordsFrom s (suc g) at) in
-    let m = offsets-many (recordsFrom s (suc g) at) in
-    record {
-      frame = next .frame;
-      range = λ e. ranged s at before (next .frame) e (next .passes);
-      room-ats = λ e. let o = one-many s at g h (next .frame) 2 e in let f = sa .fits in omega arith;
-      room-offsets = λ e. let o = one-many s at g h (next .frame) 2 e in let f = so .fits in omega arith;
-      stored = λ e.
-          record {
-            turns = g;
-            before = recordAt s at ∷ before;
-            ahead = next .ahead;
-            total = let o = one-many s at g h (next .frame) 2 e in omega arith;
-            to-ats = storing-one _ _ (rw (one-change s at g h (next .frame) e) at sa);
-            to-offsets = storing-one _ _ (rw (one-change s at g h (next .frame) e) at so);
-          };
-      passed-by = λ e.
-          record {
-            turns = g;
-            before = recordAt s at ∷ before;
-            ahead = next .ahead;
-            total = let o = no-many s at g h (next .frame) 2 e in omega arith;
-            to-ats = rw (no-change s at g h (next .frame) e) at sa;
-            to-offsets = rw (no-change s at g h (next .frame) e) at so;
-          };
-    }
+module _ {s ats ats′ offsets offsets′ rules rules′ events events′ : List ℕ} {at change rule event : ℕ} where
+  stand-by : (turns : ℕ) {before : List Record} → Ahead s at turns before → at < length s → Changing s ats ats′ offsets offsets′ turns at change
+      → Placing 3 s rules rules′ turns at rule → Placing 4 s events events′ turns at event
+      → Standing s ats ats′ offsets offsets′ rules rules′ events events′ at change rule event
+  stand-by zero a h c r e = absurd (no-turns a h)
+  stand-by (suc g) a h c r e = record { turns = g; before = _; next = ahead-next a h; inside = h; small = a .small; changing = c; ruling = r; eventing = e }
 
-module _ {s ats ats′ offsets offsets′ : List ℕ} {at n : ℕ} (p : Changing s ats ats′ offsets offsets′ at n) where
-  pub change-here : at < length s → ChangeHere s ats ats′ offsets offsets′ at n
-  change-here h = change-by h (p .turns) (p .before) (p .ahead) (p .total) (p .to-ats) (p .to-offsets)
+  pub standing : Passing s ats ats′ offsets offsets′ rules rules′ events events′ at change rule event → at < length s
+      → Standing s ats ats′ offsets offsets′ rules rules′ events events′ at change rule event
+  standing p h = stand-by (p .turns) (p .ahead) h (p .changing) (p .ruling) (p .eventing)
 
-  module _ (h : at < length s) {next n′ : ℕ} {to-ats to-offsets : List ℕ} (to : next ≡ nextAt s at) where
-    pub change-one : kindAt s at ≡ 2 → {a o : ℕ} → to-ats ≡ set ats′ n a → a ≡ secondsInstant (transitionAt s at .at) → to-offsets ≡ set offsets′ n o
-        → o ≡ offsetOf (transitionAt s at .offset) → n′ ≡ n + 1 → Changing s ats to-ats offsets to-offsets next n′
-    change-one e a b o q r = rw (to, a, b, o, q, r) (change-here h .stored e)
+  module _ (p : Standing s ats ats′ offsets offsets′ rules rules′ events events′ at change rule event) where
+    abbrev pub frame : Framed s at
+    frame = p .next .frame
 
-    pub change-none : (kindAt s at ≡ 2 → ⊥) → to-ats ≡ ats′ → to-offsets ≡ offsets′ → n′ ≡ n → Changing s ats to-ats offsets to-offsets next n′
-    change-none e a o r = rw (to, a, o, r) (change-here h .passed-by e)
+    -- another kind than k
+    other : (k : ℕ) {j : ℕ} → kindAt s at ≡ j → (j ≡ k → ⊥) → kindAt s at ≡ k → ⊥
+    other k e n q = n (sym e ∙ q)
 
-  pub change-end : length s ≤ at
-      → (n ≡ many 2 (records s)) × (ats′ ≡ wrote ats 0 (atsOf (records s))) × (offsets′ ≡ wrote offsets 0 (offsetsOf (records s)))
-  unfolding transitionsOf
-  change-end h =
-      let m = ap (many 2) (no-records s at (p .turns) h) in
-      let t = p .total in
-      (omega arith, storing-end (rw (no-records s at (p .turns) h) at (p .to-ats)), storing-end (rw (no-records s at (p .turns) h) at (p .to-offsets)))
+    pub range : kindAt s at ≡ 2 → Ranged s at
+    range e = ranged s at (p .before) frame e (p .next .passes)
+
+    pub room-change : kindAt s at ≡ 2 → (change < length ats′) × (change < length offsets′)
+    room-change e = change-room (p .inside) frame (p .changing) e
+
+    pub room-rule : kindAt s at ≡ 3 → rule < length rules′
+    room-rule e = place-room (p .inside) frame (p .ruling) e
+
+    pub room-event : kindAt s at ≡ 4 → event < length events′
+    room-event e = place-room (p .inside) frame (p .eventing) e
+
+    -- behind a record of each kind
+    module _ {next : ℕ} (to : next ≡ nextAt s at) where
+      pub pass-change : kindAt s at ≡ 2 → {a o : ℕ} → a ≡ secondsInstant (transitionAt s at .at) → o ≡ offsetOf (transitionAt s at .offset)
+          → Passing s ats (set ats′ change a) offsets (set offsets′ change o) rules rules′ events events′ next (change + 1) rule event
+      pass-change e a o =
+          rw (to, a, o)
+          (record {
+            turns = p .turns;
+            before = recordAt s at ∷ p .before;
+            ahead = p .next .ahead;
+            changing = change-one (p .inside) frame (p .changing) e;
+            ruling = place-none (p .inside) frame (p .ruling) (other 3 e (λ q. omega arith));
+            eventing = place-none (p .inside) frame (p .eventing) (other 4 e (λ q. omega arith));
+          })
+
+      pub pass-rule : kindAt s at ≡ 3 → Passing s ats ats′ offsets offsets′ rules (set rules′ rule at) events events′ next change (rule + 1) event
+      pass-rule e =
+          rw to
+          (record {
+            turns = p .turns;
+            before = recordAt s at ∷ p .before;
+            ahead = p .next .ahead;
+            changing = change-none (p .inside) frame (p .changing) (other 2 e (λ q. omega arith));
+            ruling = place-one (p .inside) frame (p .ruling) e;
+            eventing = place-none (p .inside) frame (p .eventing) (other 4 e (λ q. omega arith));
+          })
+
+      pub pass-event : kindAt s at ≡ 4 → Passing s ats ats′ offsets offsets′ rules rules′ events (set events′ event at) next change rule (event + 1)
+      pass-event e =
+          rw to
+          (record {
+            turns = p .turns;
+            before = recordAt s at ∷ p .before;
+            ahead = p .next .ahead;
+            changing = change-none (p .inside) frame (p .changing) (other 2 e (λ q. omega arith));
+            ruling = place-none (p .inside) frame (p .ruling) (other 3 e (λ q. omega arith));
+            eventing = place-one (p .inside) frame (p .eventing) e;
+          })
+
+      pub pass-other : (kindAt s at ≡ 2 → ⊥) → (kindAt s at ≡ 3 → ⊥) → (kindAt s at ≡ 4 → ⊥)
+          → Passing s ats ats′ offsets offsets′ rules rules′ events events′ next change rule event
+      pass-other a b c =
+          rw to
+          (record {
+            turns = p .turns;
+            before = recordAt s at ∷ p .before;
+            ahead = p .next .ahead;
+            changing = change-none (p .inside) frame (p .changing) a;
+            ruling = place-none (p .inside) frame (p .ruling) b;
+            eventing = place-none (p .inside) frame (p .eventing) c;
+          })
+
+  -- behind the last record
+  pub pass-end : Passing s ats ats′ offsets offsets′ rules rules′ events events′ at change rule event → length s ≤ at
+      → (_≡_ {A = Counts} (record { transitions = change; rules = rule; events = event }) (countsOf (records s)))
+      × (ats′ ≡ wrote ats 0 (atsOf (records s)))
+      × (offsets′ ≡ wrote offsets 0 (offsetsOf (records s)))
+      × (rules′ ≡ wrote rules 0 (places 3 s))
+      × (events′ ≡ wrote events 0 (places 4 s))
+  pass-end p h =
+      let c = change-end (p .changing) h in
+      let r = place-end (p .ruling) h in
+      let e = place-end (p .eventing) h in
+      (rw (c .0, r .0, e .0), c .1, c .2, r .1, e .1)

@@ -1,12 +1,20 @@
--- What the private functions require. Assumes nothing.
+-- What the private functions require and answer. Assumes nothing.
 use Prim.Native.Nat.{ℕ, _≤_}
 use mathlib.Core.Path.{_≡_}
 use mathlib.Core.List.{List}
 use lib.ListN.{length}
 use Rattle.records.specs.Limits.{base}
-use Rattle.records.specs.Book.{many, refusal, records}
+use Rattle.records.specs.Records.{Record}
+use Rattle.records.specs.Book.{many, refusal}
+use Rattle.venue.specs.declared.opened.Counts.{Counts}
 
--- a book is accepted, and a room has place for its records of kind k
-pub record Fitting (k : ℕ) (s room : List ℕ) : Type 0 where
+-- a book is accepted, and the rooms have place for as many clock changes, rules and events as a book may have
+pub record Fitting (s ats offsets rules events : List ℕ) : Type 0 where
   pub accepted : refusal base s ≡ 0
-  pub fits : many k (records s) ≤ length room
+  pub ats-long : base .transitions ≤ length ats
+  pub offsets-long : base .transitions ≤ length offsets
+  pub rules-long : base .rules ≤ length rules
+  pub events-long : base .events ≤ length events
+
+abbrev pub countsOf : List Record → Counts
+countsOf rs = record { transitions = many 2 rs; rules = many 3 rs; events = many 4 rs }

@@ -1,10 +1,9 @@
 // A book opened: judged first, then what it holds put into arrays that the caller lends.
 ghost use mathlib.Core.Path.{_≡_};
-ghost use lib.ListN.{length};
-ghost use Rattle.records.specs.Book.{many, records};
+ghost use Rattle.records.specs.Book.{records};
 ghost use Rattle.wire.specs.Fields.{wrote};
 ghost use Rattle.venue.specs.Opening.{opened, stored, atsOf, offsetsOf, places as Opening·places};
-ghost use Rattle.venue.specs.Private.{Fitting};
+ghost use Rattle.venue.specs.Private.{Fitting, countsOf};
 use book::MOST_EVENTS;
 use book::MOST_RULES;
 use book::MOST_TRANSITIONS;
@@ -12,10 +11,8 @@ use book::check;
 use records::COVERAGE_END;
 use records::COVERAGE_OFFSET;
 use records::COVERAGE_START;
-use records::EVENT;
 use records::KIND;
-use records::RULE;
-use records::TRANSITION;
+use records::TRANSITION_BYTES;
 use records::TRANSITION_INSTANT;
 use records::TRANSITION_OFFSET;
 use wire::get2;
@@ -49,39 +46,61 @@ const OFFSET_ZERO: u32 = 0x8000_0000 - 57_600;
 
 const SECOND_NS: u64 = 1_000_000_000;
 
-// Stores the clock changes of an accepted book, and answers how many there are.
-fn changes(book: &[u8], ats: &mut [u64], offsets: &mut [u32]) -> usize
-    requires { ⌜ Fitting 2 (now book) (now ats) × (length (now offsets) ≡ length (now ats)) ⌝ }
-    ensures { λ n. ⌜ (n ≡ many 2 (records (now (book .entry)))) × (now (ats .exit) ≡ wrote (now (ats .entry)) 0 (atsOf (records (now (book .entry))))) × (now (offsets .exit) ≡ wrote (now (offsets .entry)) 0 (offsetsOf (records (now (book .entry))))) ⌝ }
-{
-    let mut at: usize = 0;
-    let mut n: usize = 0;
-    while at < book.len() {
-        if get2(book, at + KIND) == TRANSITION {
-            ats[n] = (signed8(book, at + TRANSITION_INSTANT).0 - SECOND_ZERO) * SECOND_NS;
-            offsets[n] = signed4(book, at + TRANSITION_OFFSET).0 - OFFSET_ZERO;
-            n += 1;
-        }
-        at += 2 + get2(book, at) as usize;
-    }
-    n
+// How many clock changes, rules and events there are.
+struct Counts {
+    transitions: usize,
+    rules: usize,
+    events: usize,
 }
 
-// Stores where the records of a kind stand in an accepted book, and answers how many there are.
-fn places(book: &[u8], kind: u16, found: &mut [u32]) -> usize
-    requires { ⌜ Fitting kind (now book) (now found) ⌝ }
-    ensures { λ n. ⌜ (n ≡ many kind (records (now (book .entry)))) × (now (found .exit) ≡ wrote (now (found .entry)) 0 (Opening·places kind (now (book .entry)))) ⌝ }
+// Stores the clock changes of an accepted book and where its rules and its events stand, and answers how many there are.
+// A clock change's length is known from its kind, so that the step behind it does not wait for the length to be read.
+fn store(
+    book: &[u8],
+    ats: &mut [u64],
+    offsets: &mut [u32],
+    rules: &mut [u32],
+    events: &mut [u32],
+) -> Counts
+    requires { ⌜ Fitting (now book) (now ats) (now offsets) (now rules) (now events) ⌝ }
+    ensures { λ n.
+        ⌜ (n ≡ countsOf (records (now (book .entry))))
+        × (now (ats .exit) ≡ wrote (now (ats .entry)) 0 (atsOf (records (now (book .entry)))))
+        × (now (offsets .exit) ≡ wrote (now (offsets .entry)) 0 (offsetsOf (records (now (book .entry)))))
+        × (now (rules .exit) ≡ wrote (now (rules .entry)) 0 (Opening·places 3 (now (book .entry))))
+        × (now (events .exit) ≡ wrote (now (events .entry)) 0 (Opening·places 4 (now (book .entry)))) ⌝ }
 {
     let mut at: usize = 0;
-    let mut n: usize = 0;
+    let mut change: usize = 0;
+    let mut rule: usize = 0;
+    let mut event: usize = 0;
     while at < book.len() {
-        if get2(book, at + KIND) == kind {
-            found[n] = at as u32;
-            n += 1;
+        let kind = get2(book, at + KIND);
+        match kind {
+            2 => {
+                ats[change] = (signed8(book, at + TRANSITION_INSTANT).0 - SECOND_ZERO) * SECOND_NS;
+                offsets[change] = signed4(book, at + TRANSITION_OFFSET).0 - OFFSET_ZERO;
+                change += 1;
+                at += TRANSITION_BYTES;
+            }
+            3 => {
+                rules[rule] = at as u32;
+                rule += 1;
+                at += 2 + get2(book, at) as usize;
+            }
+            4 => {
+                events[event] = at as u32;
+                event += 1;
+                at += 2 + get2(book, at) as usize;
+            }
+            _ => at += 2 + get2(book, at) as usize,
         }
-        at += 2 + get2(book, at) as usize;
     }
-    n
+    Counts {
+        transitions: change,
+        rules: rule,
+        events: event,
+    }
 }
 
 // Judges a book and, if it is accepted, stores its clock changes' instants and offsets and where its rules and its events stand.
@@ -109,15 +128,13 @@ pub fn open(
     let start = Instant(signed8(book, COVERAGE_START).0 - INSTANT_ZERO);
     let end = Instant(signed8(book, COVERAGE_END).0 - INSTANT_ZERO);
     let first = signed4(book, COVERAGE_OFFSET).0 - OFFSET_ZERO;
-    let transitions = changes(book, ats, offsets);
-    let rules = places(book, RULE, rules);
-    let events = places(book, EVENT, events);
+    let n = store(book, ats, offsets, rules, events);
     Opened::Venue(Header {
         start,
         end,
         first,
-        transitions,
-        rules,
-        events,
+        transitions: n.transitions,
+        rules: n.rules,
+        events: n.events,
     })
 }

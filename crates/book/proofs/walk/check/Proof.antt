@@ -1,11 +1,11 @@
-use Rattle.book.proofs.Before.{Looking, item-inside, items-4, item-below, look-on, late-5, falls-6, reversed-7, covers-8, close-9, on-all, Here, start, over, end, stop-2, Known, known, headless-is, head-2, many-is, many-3, fields-4, room-of}
-use Rattle.book.proofs.Items.{looked-none}
-use Rattle.records.proofs.Frames.{size-by, framed, step-least}
-use lib.ListN.{length}
-use mathlib.Core.Path.{sym, ap, _∙_}
-use Prim.Native.Nat.{ℕ, _-_, _+_}
-use borrow.Author.Needs.{needs}
 use native.Mathlib.Omega.{arith}
+use borrow.Author.Needs.{needs}
+use Prim.Native.Nat.{ℕ, _-_, _+_}
+use mathlib.Core.Path.{sym, ap, _∙_}
+use lib.ListN.{length}
+use Rattle.records.proofs.Frames.{size-by, framed, room2, next2, step-least}
+use Rattle.book.proofs.Items.{looked-none}
+use Rattle.book.proofs.Before.{Looking, item-inside, items-4, item-below, look-on, late-5, falls-6, reversed-7, covers-8, transition-9, on-transition, on-other, Here, start, over, end, stop-2, Known, known, headless-is, head-2, many-is, many-3, fields-4, room-of}
 use Rattle.book.proofs.walk.check.Statement.{statement}
 use Rattle.book.proofs.walk.check.Tie as tie
 
@@ -36,13 +36,13 @@ returns : At tie.Need-returns
 returns c =
     let at-if1 = c in
     let at-start = at-if1 .before .before in
-    over ((at-start .args .book) .now) (at-if1 .if1 .taken)
+    over (at-start .args .book .now) (at-if1 .if1 .taken)
 
 records-holds : At tie.Need-records-holds
 records-holds c =
     let at-if1 = c in
     let at-start = at-if1 .before .before in
-    start ((at-start .args .book) .now) (at-if1 .if1 .left)
+    start (at-start .args .book .now) (at-if1 .if1 .left)
 
 bad-frame-requires : At tie.Need-bad-frame-requires
 bad-frame-requires c κs =
@@ -60,7 +60,7 @@ get2-requires c κs =
     let at-bad-frame = at-if3 .before in
     let at-records = at-bad-frame .before .before in
     let at-start = at-records .before .before .before in
-    omega (arith, (framed ((at-start .args .book) .now) (at-records .records .at) (sym (at-bad-frame .bad-frame .ensures) ∙ (at-if3 .if3 .left))) .head)
+    omega (arith, (framed (at-start .args .book .now) (at-records .records .at) (sym (at-bad-frame .bad-frame .ensures) ∙ (at-if3 .if3 .left))) .head)
 
 add-next-2 : At tie.Need-add-next-2
 add-next-2 c =
@@ -69,7 +69,7 @@ add-next-2 c =
     let at-bad-frame = at-if3 .before in
     let at-records = at-bad-frame .before .before in
     let at-start = at-records .before .before .before in
-    let f = (framed ((at-start .args .book) .now) (at-records .records .at) (sym (at-bad-frame .bad-frame .ensures) ∙ (at-if3 .if3 .left))) .whole in let z = (size-by ((at-start .args .book) .now) (at-records .records .at) _ (at-get2 .get2 .ensures)) in omega (arith, (at-records .records .inv) .small)
+    let f = (framed (at-start .args .book .now) (at-records .records .at) (sym (at-bad-frame .bad-frame .ensures) ∙ (at-if3 .if3 .left))) .whole in let z = (size-by (at-start .args .book .now) (at-records .records .at) _ (at-get2 .get2 .ensures)) in omega (arith, (at-records .records .inv) .small)
 
 add-get2 : At tie.Need-add-get2
 add-get2 c =
@@ -82,22 +82,51 @@ get2-requires-2 c κs =
     let at-bad-frame = at-if3 .before in
     let at-records = at-bad-frame .before .before in
     let at-start = at-records .before .before .before in
-    omega (arith, (framed ((at-start .args .book) .now) (at-records .records .at) (sym (at-bad-frame .bad-frame .ensures) ∙ (at-if3 .if3 .left))) .head)
+    omega (arith, (framed (at-start .args .book .now) (at-records .records .at) (sym (at-bad-frame .bad-frame .ensures) ∙ (at-if3 .if3 .left))) .head)
 
 bad-fields-requires : At tie.Need-bad-fields-requires
 bad-fields-requires c κs =
     let at-get22 = c .before .before .before .before in
     ((known-at at-get22) .frame, (known-at at-get22) .kind)
 
-items-requires : At tie.Need-items-requires
-items-requires c κs =
-    let at-get22 = c .before .before .before .before .before .before in
-    ((known-at at-get22) .frame, (known-at at-get22) .kind)
+too-close-requires : At tie.Need-too-close-requires
+too-close-requires c κs =
+    let at-if7 = c in
+    let at-get22 = at-if7 .before .before .before .before .before .before .before in
+    let at-records = at-get22 .before .before .before .before .before in
+    let at-start = at-records .before .before .before in
+    (room2 (at-start .args .book .now) (at-records .records .at) _ ((known-at at-get22) .frame) ((known-at at-get22) .kind) (at-if7 .if7 .taken))
 
-points-holds : At tie.Need-points-holds
-points-holds c =
-    let at-items = c in
-    let at-if6 = at-items .before in
+one-more-requires : At tie.Need-one-more-requires
+one-more-requires c κs =
+    let at-if6 = c .before .before .before in
+    let at-bad-fields = at-if6 .before in
+    let at-get22 = at-bad-fields .before .before .before .before .before in
+    ((known-at at-get22) .frame, (known-at at-get22) .kind, room-of (known-at at-get22) (sym (at-bad-fields .bad-fields .ensures) ∙ (at-if6 .if6 .left)))
+
+add-at : At tie.Need-add-at
+add-at c =
+    let at-if7 = c .before .before .before in
+    let at-get22 = at-if7 .before .before .before .before .before .before .before in
+    let at-records = at-get22 .before .before .before .before .before in
+    let at-start = at-records .before .before .before in
+    omega (arith, (room2 (at-start .args .book .now) (at-records .records .at) _ ((known-at at-get22) .frame) ((known-at at-get22) .kind) (at-if7 .if7 .taken)), (at-records .records .inv) .small)
+
+records-less : At tie.Need-records-less
+records-less c =
+    let at-if7 = c .before .before .before in
+    let at-get22 = at-if7 .before .before .before .before .before .before .before in
+    let at-records = at-get22 .before .before .before .before .before in
+    let at-start = at-records .before .before .before in
+    omega (arith, (room2 (at-start .args .book .now) (at-records .records .at) _ ((known-at at-get22) .frame) ((known-at at-get22) .kind) (at-if7 .if7 .taken)))
+
+records-again : At tie.Need-records-again
+records-again c =
+    let at-one-more = c in
+    let at-if8 = at-one-more .before in
+    let at-too-close = at-if8 .before in
+    let at-if7 = at-too-close .before in
+    let at-if6 = at-if7 .before in
     let at-bad-fields = at-if6 .before in
     let at-if5 = at-bad-fields .before in
     let at-too-many = at-if5 .before in
@@ -105,7 +134,25 @@ points-holds c =
     let at-get22 = at-if4 .before .before in
     let at-records = at-get22 .before .before .before .before .before in
     let at-start = at-records .before .before .before in
-    record { known = (known-at at-get22); headed = (sym (headless-is (known-at at-get22)) ∙ (at-if4 .if4 .left)); few = (sym (many-is (known-at at-get22)) ∙ sym (at-too-many .too-many .ensures) ∙ (at-if5 .if5 .left)); fields = (sym (at-bad-fields .bad-fields .ensures) ∙ (at-if6 .if6 .left)); many = (at-items .items .ensures); looked = looked-none ((at-start .args .book) .now) _ (at-records .records .at) _ }
+    on-transition (known-at at-get22) (at-if7 .if7 .taken) (sym (headless-is (known-at at-get22)) ∙ (at-if4 .if4 .left)) ((sym (many-is (known-at at-get22)) ∙ sym (at-too-many .too-many .ensures)) ∙ (at-if5 .if5 .left)) (sym (at-bad-fields .bad-fields .ensures) ∙ (at-if6 .if6 .left)) (sym (at-too-close .too-close .ensures) ∙ (at-if8 .if8 .left)) _ (at-one-more .one-more .ensures) _ (next2 (at-start .args .book .now) (at-records .records .at) _ ((known-at at-get22) .frame) ((known-at at-get22) .kind) (at-if7 .if7 .taken))
+
+items-requires : At tie.Need-items-requires
+items-requires c κs =
+    let at-get22 = c .before .before .before .before .before .before .before in
+    ((known-at at-get22) .frame, (known-at at-get22) .kind)
+
+points-holds : At tie.Need-points-holds
+points-holds c =
+    let at-items = c in
+    let at-if6 = at-items .before .before in
+    let at-bad-fields = at-if6 .before in
+    let at-if5 = at-bad-fields .before in
+    let at-too-many = at-if5 .before in
+    let at-if4 = at-too-many .before in
+    let at-get22 = at-if4 .before .before in
+    let at-records = at-get22 .before .before .before .before .before in
+    let at-start = at-records .before .before .before in
+    record { known = (known-at at-get22); headed = (sym (headless-is (known-at at-get22)) ∙ (at-if4 .if4 .left)); few = ((sym (many-is (known-at at-get22)) ∙ sym (at-too-many .too-many .ensures)) ∙ (at-if5 .if5 .left)); fields = (sym (at-bad-fields .bad-fields .ensures) ∙ (at-if6 .if6 .left)); many = (at-items .items .ensures); looked = looked-none (at-start .args .book .now) _ (at-records .records .at) _ }
 
 bad-item-requires : At tie.Need-bad-item-requires
 bad-item-requires c κs =
@@ -117,23 +164,23 @@ item-time-requires : At tie.Need-item-time-requires
 item-time-requires c κs =
     let at-points-test = c .before .before in
     let at-points = at-points-test .before in
-    let at-get22 = at-points .before .before .before .before .before .before .before .before in
+    let at-get22 = at-points .before .before .before .before .before .before .before .before .before in
     let r = item-inside (at-points .points .inv) (at-points-test .points-test .taken) in omega (arith, step-least (at-get22 .get22 .result))
 
 add-least : At tie.Need-add-least
 add-least c =
     let at-item-time = c in
-    let at-if7 = at-item-time .before in
-    let at-bad-item = at-if7 .before in
+    let at-if9 = at-item-time .before in
+    let at-bad-item = at-if9 .before in
     let at-points = at-bad-item .before .before in
-    let t = item-below (at-points .points .inv) (sym (at-bad-item .bad-item .ensures) ∙ (at-if7 .if7 .left)) in let e = (at-item-time .item-time .ensures) in omega arith
+    let t = item-below (at-points .points .inv) (sym (at-bad-item .bad-item .ensures) ∙ (at-if9 .if9 .left)) in let e = (at-item-time .item-time .ensures) in omega arith
 
 add-item : At tie.Need-add-item
 add-item c =
     let at-step-of = c in
     let at-points-test = at-step-of .before .before .before .before in
     let at-points = at-points-test .before in
-    let at-records = at-points .before .before .before .before .before .before .before .before .before .before .before .before .before in
+    let at-records = at-points .before .before .before .before .before .before .before .before .before .before .before .before .before .before in
     let r = item-inside (at-points .points .inv) (at-points-test .points-test .taken) in let e = (at-step-of .step-of .ensures) in omega (arith, (at-records .records .inv) .small)
 
 add-i : At tie.Need-add-i
@@ -150,11 +197,11 @@ points-again : At tie.Need-points-again
 points-again c =
     let at-step-of = c in
     let at-item-time = at-step-of .before in
-    let at-if7 = at-item-time .before in
-    let at-bad-item = at-if7 .before in
+    let at-if9 = at-item-time .before in
+    let at-bad-item = at-if9 .before in
     let at-points-test = at-bad-item .before in
     let at-points = at-points-test .before in
-    look-on (at-points .points .inv) _ _ (at-points-test .points-test .taken) (sym (at-bad-item .bad-item .ensures) ∙ (at-if7 .if7 .left)) (at-item-time .item-time .ensures) ((at-step-of .step-of .ensures) .0)
+    look-on (at-points .points .inv) _ _ (at-points-test .points-test .taken) (sym (at-bad-item .bad-item .ensures) ∙ (at-if9 .if9 .left)) (at-item-time .item-time .ensures) ((at-step-of .step-of .ensures) .0)
 
 late-start-requires : At tie.Need-late-start-requires
 late-start-requires c κs =
@@ -166,48 +213,43 @@ is-reversed-requires c κs =
     let at-points = c .before .before .before .before in
     ((at-points .points .inv) .known .frame, (at-points .points .inv) .known .kind)
 
-covers-nothing-requires : At tie.Need-covers-nothing-requires
+covers-nothing-requires :
+    At tie.Need-covers-nothing-requires
 covers-nothing-requires c κs =
     let at-points = c .before .before .before .before .before .before in
     ((at-points .points .inv) .known .frame, (at-points .points .inv) .known .kind)
 
-too-close-requires : At tie.Need-too-close-requires
-too-close-requires c κs =
+one-more-requires-2 : At tie.Need-one-more-requires-2
+one-more-requires-2 c κs =
     let at-points = c .before .before .before .before .before .before .before .before in
-    ((at-points .points .inv) .known .frame, (at-points .points .inv) .known .kind)
-
-one-more-requires : At tie.Need-one-more-requires
-one-more-requires c κs =
-    let at-points = c .before .before .before .before .before .before .before .before .before .before in
     ((at-points .points .inv) .known .frame, (at-points .points .inv) .known .kind, room-of ((at-points .points .inv) .known) ((at-points .points .inv) .fields))
 
-records-less : At tie.Need-records-less
-records-less c =
-    let at-get2 = c .before .before .before .before .before .before .before .before .before .before .before .before .before .before .before .before .before .before .before .before in
+records-less-2 : At tie.Need-records-less-2
+records-less-2 c =
+    let at-get2 = c .before .before .before .before .before .before .before .before .before .before .before .before .before .before .before .before .before .before .before in
     let at-if3 = at-get2 .before in
     let at-bad-frame = at-if3 .before in
     let at-records = at-bad-frame .before .before in
     let at-start = at-records .before .before .before in
-    let f = (framed ((at-start .args .book) .now) (at-records .records .at) (sym (at-bad-frame .bad-frame .ensures) ∙ (at-if3 .if3 .left))) .whole in let h = (framed ((at-start .args .book) .now) (at-records .records .at) (sym (at-bad-frame .bad-frame .ensures) ∙ (at-if3 .if3 .left))) .head in let z = (size-by ((at-start .args .book) .now) (at-records .records .at) _ (at-get2 .get2 .ensures)) in omega arith
+    let f = (framed (at-start .args .book .now) (at-records .records .at) (sym (at-bad-frame .bad-frame .ensures) ∙ (at-if3 .if3 .left))) .whole in let h = (framed (at-start .args .book .now) (at-records .records .at) (sym (at-bad-frame .bad-frame .ensures) ∙ (at-if3 .if3 .left))) .head in let z = (size-by (at-start .args .book .now) (at-records .records .at) _ (at-get2 .get2 .ensures)) in omega arith
 
-records-again : At tie.Need-records-again
-records-again c =
-    let at-one-more = c in
-    let at-if12 = at-one-more .before in
-    let at-too-close = at-if12 .before in
-    let at-if11 = at-too-close .before in
-    let at-covers-nothing = at-if11 .before in
-    let at-if10 = at-covers-nothing .before in
-    let at-is-reversed = at-if10 .before in
-    let at-if9 = at-is-reversed .before in
-    let at-if8 = at-if9 .before in
-    let at-late-start = at-if8 .before in
+records-again-2 : At tie.Need-records-again-2
+records-again-2 c =
+    let at-one-more2 = c in
+    let at-if13 = at-one-more2 .before in
+    let at-covers-nothing = at-if13 .before in
+    let at-if12 = at-covers-nothing .before in
+    let at-is-reversed = at-if12 .before in
+    let at-if11 = at-is-reversed .before in
+    let at-if10 = at-if11 .before in
+    let at-late-start = at-if10 .before in
     let at-points-test = at-late-start .before in
     let at-points = at-points-test .before in
-    let at-get2 = at-points .before .before .before .before .before .before .before .before .before in
+    let at-if7 = at-points .before .before in
+    let at-get2 = at-if7 .before .before .before .before .before .before .before .before in
     let at-records = at-get2 .before .before .before .before in
     let at-start = at-records .before .before .before in
-    on-all (at-points .points .inv) (at-points-test .points-test .left) (sym (at-late-start .late-start .ensures) ∙ (at-if8 .if8 .left)) (at-if9 .if9 .left) (sym (at-is-reversed .is-reversed .ensures) ∙ (at-if10 .if10 .left)) (sym (at-covers-nothing .covers-nothing .ensures) ∙ (at-if11 .if11 .left)) (sym (at-too-close .too-close .ensures) ∙ (at-if12 .if12 .left)) _ (at-one-more .one-more .ensures) _ (ap (λ (z : ℕ). (at-records .records .at) + 2 + z) (size-by ((at-start .args .book) .now) (at-records .records .at) _ (at-get2 .get2 .ensures)))
+    on-other (at-points .points .inv) (at-points-test .points-test .left) (sym (at-late-start .late-start .ensures) ∙ (at-if10 .if10 .left)) (at-if11 .if11 .left) (sym (at-is-reversed .is-reversed .ensures) ∙ (at-if12 .if12 .left)) (sym (at-covers-nothing .covers-nothing .ensures) ∙ (at-if13 .if13 .left)) (at-if7 .if7 .left) _ (at-one-more2 .one-more2 .ensures) _ (ap (λ (z : ℕ). (at-records .records .at) + 2 + z) (size-by (at-start .args .book .now) (at-records .records .at) _ (at-get2 .get2 .ensures)))
 
 returns-2 : At tie.Need-returns-2
 returns-2 c =
@@ -235,7 +277,7 @@ returns-5 c =
     let at-too-many = at-if5 .before in
     let at-if4 = at-too-many .before in
     let at-get22 = at-if4 .before .before in
-    many-3 (known-at at-get22) (sym (headless-is (known-at at-get22)) ∙ (at-if4 .if4 .left)) (sym (many-is (known-at at-get22)) ∙ sym (at-too-many .too-many .ensures) ∙ (at-if5 .if5 .taken))
+    many-3 (known-at at-get22) (sym (headless-is (known-at at-get22)) ∙ (at-if4 .if4 .left)) ((sym (many-is (known-at at-get22)) ∙ sym (at-too-many .too-many .ensures)) ∙ (at-if5 .if5 .taken))
 
 returns-6 : At tie.Need-returns-6
 returns-6 c =
@@ -245,71 +287,69 @@ returns-6 c =
     let at-too-many = at-if5 .before in
     let at-if4 = at-too-many .before in
     let at-get22 = at-if4 .before .before in
-    fields-4 (known-at at-get22) (sym (headless-is (known-at at-get22)) ∙ (at-if4 .if4 .left)) (sym (many-is (known-at at-get22)) ∙ sym (at-too-many .too-many .ensures) ∙ (at-if5 .if5 .left)) (sym (at-bad-fields .bad-fields .ensures) ∙ (at-if6 .if6 .taken))
+    fields-4 (known-at at-get22) (sym (headless-is (known-at at-get22)) ∙ (at-if4 .if4 .left)) ((sym (many-is (known-at at-get22)) ∙ sym (at-too-many .too-many .ensures)) ∙ (at-if5 .if5 .left)) (sym (at-bad-fields .bad-fields .ensures) ∙ (at-if6 .if6 .taken))
 
 returns-7 : At tie.Need-returns-7
 returns-7 c =
-    let at-if7 = c in
-    let at-bad-item = at-if7 .before in
-    let at-points-test = at-bad-item .before in
-    let at-points = at-points-test .before in
-    items-4 (at-points .points .inv) (at-points-test .points-test .taken) (sym (at-bad-item .bad-item .ensures) ∙ (at-if7 .if7 .taken))
+    let at-if8 = c in
+    let at-too-close = at-if8 .before in
+    let at-if7 = at-too-close .before in
+    let at-if6 = at-if7 .before in
+    let at-bad-fields = at-if6 .before in
+    let at-if5 = at-bad-fields .before in
+    let at-too-many = at-if5 .before in
+    let at-if4 = at-too-many .before in
+    let at-get22 = at-if4 .before .before in
+    transition-9 (known-at at-get22) (at-if7 .if7 .taken) (sym (headless-is (known-at at-get22)) ∙ (at-if4 .if4 .left)) ((sym (many-is (known-at at-get22)) ∙ sym (at-too-many .too-many .ensures)) ∙ (at-if5 .if5 .left)) (sym (at-bad-fields .bad-fields .ensures) ∙ (at-if6 .if6 .left)) (sym (at-too-close .too-close .ensures) ∙ (at-if8 .if8 .taken))
 
 returns-8 : At tie.Need-returns-8
 returns-8 c =
-    let at-if8 = c in
-    let at-late-start = at-if8 .before in
-    let at-points-test = at-late-start .before in
+    let at-if9 = c in
+    let at-bad-item = at-if9 .before in
+    let at-points-test = at-bad-item .before in
     let at-points = at-points-test .before in
-    late-5 (at-points .points .inv) (at-points-test .points-test .left) (sym (at-late-start .late-start .ensures) ∙ (at-if8 .if8 .taken))
+    items-4 (at-points .points .inv) (at-points-test .points-test .taken) (sym (at-bad-item .bad-item .ensures) ∙ (at-if9 .if9 .taken))
 
 returns-9 : At tie.Need-returns-9
 returns-9 c =
-    let at-if9 = c in
-    let at-if8 = at-if9 .before in
-    let at-late-start = at-if8 .before in
+    let at-if10 = c in
+    let at-late-start = at-if10 .before in
     let at-points-test = at-late-start .before in
     let at-points = at-points-test .before in
-    falls-6 (at-points .points .inv) (at-points-test .points-test .left) (sym (at-late-start .late-start .ensures) ∙ (at-if8 .if8 .left)) (at-if9 .if9 .taken)
+    late-5 (at-points .points .inv) (at-points-test .points-test .left) (sym (at-late-start .late-start .ensures) ∙ (at-if10 .if10 .taken))
 
 returns-10 : At tie.Need-returns-10
 returns-10 c =
-    let at-if10 = c in
-    let at-is-reversed = at-if10 .before in
-    let at-if9 = at-is-reversed .before in
-    let at-if8 = at-if9 .before in
-    let at-late-start = at-if8 .before in
+    let at-if11 = c in
+    let at-if10 = at-if11 .before in
+    let at-late-start = at-if10 .before in
     let at-points-test = at-late-start .before in
     let at-points = at-points-test .before in
-    reversed-7 (at-points .points .inv) (at-points-test .points-test .left) (sym (at-late-start .late-start .ensures) ∙ (at-if8 .if8 .left)) (at-if9 .if9 .left) (sym (at-is-reversed .is-reversed .ensures) ∙ (at-if10 .if10 .taken))
+    falls-6 (at-points .points .inv) (at-points-test .points-test .left) (sym (at-late-start .late-start .ensures) ∙ (at-if10 .if10 .left)) (at-if11 .if11 .taken)
 
 returns-11 : At tie.Need-returns-11
 returns-11 c =
-    let at-if11 = c in
-    let at-covers-nothing = at-if11 .before in
-    let at-if10 = at-covers-nothing .before in
-    let at-is-reversed = at-if10 .before in
-    let at-if9 = at-is-reversed .before in
-    let at-if8 = at-if9 .before in
-    let at-late-start = at-if8 .before in
+    let at-if12 = c in
+    let at-is-reversed = at-if12 .before in
+    let at-if11 = at-is-reversed .before in
+    let at-if10 = at-if11 .before in
+    let at-late-start = at-if10 .before in
     let at-points-test = at-late-start .before in
     let at-points = at-points-test .before in
-    covers-8 (at-points .points .inv) (at-points-test .points-test .left) (sym (at-late-start .late-start .ensures) ∙ (at-if8 .if8 .left)) (at-if9 .if9 .left) (sym (at-is-reversed .is-reversed .ensures) ∙ (at-if10 .if10 .left)) (sym (at-covers-nothing .covers-nothing .ensures) ∙ (at-if11 .if11 .taken))
+    reversed-7 (at-points .points .inv) (at-points-test .points-test .left) (sym (at-late-start .late-start .ensures) ∙ (at-if10 .if10 .left)) (at-if11 .if11 .left) (sym (at-is-reversed .is-reversed .ensures) ∙ (at-if12 .if12 .taken))
 
 returns-12 : At tie.Need-returns-12
 returns-12 c =
-    let at-if12 = c in
-    let at-too-close = at-if12 .before in
-    let at-if11 = at-too-close .before in
-    let at-covers-nothing = at-if11 .before in
-    let at-if10 = at-covers-nothing .before in
-    let at-is-reversed = at-if10 .before in
-    let at-if9 = at-is-reversed .before in
-    let at-if8 = at-if9 .before in
-    let at-late-start = at-if8 .before in
+    let at-if13 = c in
+    let at-covers-nothing = at-if13 .before in
+    let at-if12 = at-covers-nothing .before in
+    let at-is-reversed = at-if12 .before in
+    let at-if11 = at-is-reversed .before in
+    let at-if10 = at-if11 .before in
+    let at-late-start = at-if10 .before in
     let at-points-test = at-late-start .before in
     let at-points = at-points-test .before in
-    close-9 (at-points .points .inv) (at-points-test .points-test .left) (sym (at-late-start .late-start .ensures) ∙ (at-if8 .if8 .left)) (at-if9 .if9 .left) (sym (at-is-reversed .is-reversed .ensures) ∙ (at-if10 .if10 .left)) (sym (at-covers-nothing .covers-nothing .ensures) ∙ (at-if11 .if11 .left)) (sym (at-too-close .too-close .ensures) ∙ (at-if12 .if12 .taken))
+    covers-8 (at-points .points .inv) (at-points-test .points-test .left) (sym (at-late-start .late-start .ensures) ∙ (at-if10 .if10 .left)) (at-if11 .if11 .left) (sym (at-is-reversed .is-reversed .ensures) ∙ (at-if12 .if12 .left)) (sym (at-covers-nothing .covers-nothing .ensures) ∙ (at-if13 .if13 .taken))
 
 pub check-spec : {M : Type 1} → statement M
 check-spec =
@@ -330,6 +370,11 @@ check-spec =
     get2-requires-2
     (λ c κs. search needs)
     bad-fields-requires
+    too-close-requires
+    one-more-requires
+    add-at
+    records-less
+    records-again
     items-requires
     points-holds
     bad-item-requires
@@ -343,10 +388,9 @@ check-spec =
     late-start-requires
     is-reversed-requires
     covers-nothing-requires
-    too-close-requires
-    one-more-requires
-    records-less
-    records-again
+    one-more-requires-2
+    records-less-2
+    records-again-2
     returns-2
     returns-3
     returns-4
