@@ -1,13 +1,14 @@
 -- How many events a span can have. Assumes nothing.
 use mathlib.Core.Bool.{Bool, true, false, cond, _&&_}
 use mathlib.Core.List.{List, [], _∷_, _++_, map}
-use Prim.Native.Nat.{ℕ, zero, suc, _+_, _-_, _*_, _≤_, _<_}
+use Prim.Native.Nat.{ℕ, zero, suc, _+_, _-_, _*_, _^_, _≤_, _<_}
 use native.Mathlib.Omega.{arith}
 use lib.Dec.{leb}
 use lib.ListN.{length, getD, length-append, length-map}
 use Rattle.zone.specs.Zone.{Zone, zoneOf, dateAt}
 use Rattle.zone.specs.Units.{dayNs, mostNs, nearestInstant}
 use Rattle.zone.specs.Answers.{Valid}
+use Rattle.zone.proofs.Domain.{date-small}
 use Rattle.zone.proofs.Offsets.{offset-most}
 use Rattle.records.specs.Records.{Event, eventAt}
 use Rattle.venue.specs.Opening.{dayOf}
@@ -61,6 +62,21 @@ book-few : (s places : List ℕ) → ((i : ℕ) → i < length places → Listed
 book-few s [] l = tt
 book-few s (p ∷ ps) l = (good-event s p (l 0 (omega arith)) .few, book-few s ps (λ i h. l (suc i) (omega arith)))
 
+-- whatever the span
+pub found-few : (s : List ℕ) (first : ℕ) (ats offsets events : List ℕ) → Valid first ats offsets → AllListed 4 s events → length events ≤ 32
+    → (from to : ℕ) → length (found (zoneOf first ats offsets) (map (eventAt s) events) from to) ≤ 2 ^ 25
+unfolding found
+found-few s first ats offsets events v a l from to =
+    let z = zoneOf first ats offsets in
+    let es = map (eventAt s) events in
+    let m : length es ≤ 32 = omega (arith, length-map events (eventAt s)) in
+    by-dates (dateAt z from) (dateAt z to) _ (date-small first ats offsets to v)
+    (dates-few z from to es (book-few s events a) (dateAt z from) (suc (dateAt z to - dateAt z from)) m)
+  where
+    by-dates : (d e n : ℕ) → e < 2 ^ 17 → n ≤ 256 * suc (e - d) → n ≤ 2 ^ 25
+    by-dates d e n i j = omega arith
+
+-- of at most 56 hours
 pub few : (s : List ℕ) (first : ℕ) (ats offsets events : List ℕ) → Valid first ats offsets → AllListed 4 s events → length events ≤ 32
     → (from to : ℕ) → to ≤ from + (dayNs + mostNs + mostNs) → length (found (zoneOf first ats offsets) (map (eventAt s) events) from to) ≤ 1280
 unfolding found

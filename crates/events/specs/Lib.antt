@@ -1,3 +1,4 @@
 pub mod Happenings
 pub mod Seeking
 pub mod Order
+pub mod Keeping

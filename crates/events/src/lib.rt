@@ -1,8 +1,12 @@
 // The events of a span, in order, one after the other.
 mod seek;
+mod steady;
 
 pub use seek::count_events;
 pub use seek::search_events;
+pub use steady::Collected;
+pub use steady::collect;
+pub use steady::next_kept;
 use zone::Boundary;
 use zone::Instant;
 

@@ -1,4 +1,5 @@
-// Events are found by date, listed rule and listed time. They are not stored: each is sought behind the one before it.
+// Events are found by date, listed rule and listed time. Here they are not stored: each is sought behind the one before it. This is the
+// way near a clock change; where none is near, steady.rt finds them once.
 ghost use Prim.Native.Nat.{_+_, _*_, _^_, _≤_, _<_};
 ghost use mathlib.Core.Path.{_≡_};
 ghost use mathlib.Core.List.{map};
@@ -10,8 +11,10 @@ ghost use Rattle.venue.specs.Reading.{Listed, AllListed};
 ghost use Rattle.events.specs.Happenings.{occurrence as Happenings·occurrence, happens as Happenings·happens, onTimes, onDate, found};
 ghost use Rattle.events.specs.Seeking.{met as Seeking·met, sought, begin, better as Seeking·better};
 use crate::Best;
+use crate::Collected;
 use crate::Occurrence;
 use crate::Search;
+use crate::steady::collect;
 use calendar::Day;
 use venue::event_code;
 use venue::event_evidence;
@@ -220,6 +223,23 @@ pub fn count_events(
     if events.len() == 0 {
         return 0;
     }
-    let s = search_events(book, first, ats, offsets, events, from, to, Instant(0), 0);
-    s.count
+    let mut when = [0u64; 0];
+    let mut which = [0u32; 0];
+    match collect(
+        book,
+        first,
+        ats,
+        offsets,
+        events,
+        from,
+        to,
+        &mut when,
+        &mut which,
+    ) {
+        Collected::All(n) => n,
+        Collected::Unsteady => {
+            let s = search_events(book, first, ats, offsets, events, from, to, Instant(0), 0);
+            s.count
+        }
+    }
 }

@@ -1,2 +1,3 @@
 pub mod Trailing
 pub mod Showing
+pub mod Kept

@@ -1,26 +1,34 @@
 // What a span of a date is as records: its phase, and its events behind it.
-ghost use Prim.Native.Nat.{_*_, _≤_};
+ghost use Prim.Native.Nat.{ℕ, _*_, _≤_, _<_};
 ghost use mathlib.Core.Path.{_≡_};
 ghost use mathlib.Core.List.{map};
-ghost use lib.ListN.{length};
+ghost use lib.ListN.{length, getD};
 ghost use Rattle.wire.specs.Fields.{Inside, Put};
 ghost use Rattle.zone.specs.Zone.{zoneOf};
 ghost use Rattle.zone.specs.Answers.{Valid};
 ghost use Rattle.records.specs.Records.{eventAt};
 ghost use Rattle.venue.specs.Reading.{Listed, AllListed};
 ghost use Rattle.day.specs.Meaning.{heldBy};
-ghost use Rattle.events.specs.Happenings.{found, eventsIn};
+ghost use Rattle.events.specs.Happenings.{found, byInstant, eventsIn};
+ghost use Rattle.events.specs.Keeping.{listed, keptOf};
 ghost use Rattle.answer.specs.Forms.{encodeAll};
 ghost use Rattle.tell.specs.Shown.{headOf, eventForm};
 use answer::Phase;
 use answer::put_event;
 use day::Segment;
 use events::Best;
+use events::Collected;
+use events::collect;
+use events::next_kept;
 use events::search_events;
+use venue::event_code;
+use venue::event_evidence;
+use venue::event_uncertainty;
 use venue::rule_code;
 use venue::rule_derived;
 use venue::rule_evidence;
 use venue::rule_label;
+use zone::Boundary;
 use zone::Instant;
 use zone::Uncertainty;
 
@@ -54,6 +62,81 @@ pub fn phase_of(
     }
 }
 
+// How many events of a span are kept at most.
+const MOST_KEPT: usize = 32;
+
+// The n events that two arrays keep, one after the other, from `at` on. Answers the place behind them.
+fn put_kept(book: &[u8], when: &[u64], which: &[u32], n: usize, out: &mut [u8], at: usize) -> usize
+    requires { ⌜ (n ≤ length (now when)) × (n ≤ length (now which)) × ((i : ℕ) → i < n → Listed 4 (now book) (getD (now which) i 0)) × Inside at (35 * n) (now out) ⌝ }
+    ensures { λ r. ⌜ Put (now (out .entry)) at
+        (encodeAll (map eventForm (byInstant (listed (keptOf (now (book .entry)) (now (when .entry)) (now (which .entry))) 0 n))))
+        (35 * n) (now (out .exit)) r ⌝ }
+{
+    let mut place = at;
+    let mut next = next_kept(when, n, Instant(0), 0);
+    let mut i: usize = 0;
+    while i < n {
+        let t = Instant(when[next]);
+        let event = which[next] as usize;
+        let boundary = Boundary {
+            at: t,
+            uncertainty: event_uncertainty(book, event),
+        };
+        place = put_event(
+            out,
+            place,
+            event_code(book, event),
+            boundary,
+            event_evidence(book, event),
+        );
+        next = next_kept(when, n, t, next + 1);
+        i += 1;
+    }
+    place
+}
+
+// The events of a span, each sought behind the one before it, from `at` on. Answers the place behind them.
+fn put_sought(
+    book: &[u8],
+    first: u32,
+    ats: &[u64],
+    offsets: &[u32],
+    events: &[u32],
+    from: Instant,
+    to: Instant,
+    out: &mut [u8],
+    at: usize,
+) -> usize
+    requires { ⌜ Valid first (now ats) (now offsets) × AllListed 4 (now book) (now events) × (length (now events) ≤ 32)
+        × Inside at (35 * length (found (zoneOf first (now ats) (now offsets)) (map (eventAt (now book)) (now events)) (from .0) (to .0))) (now out) ⌝ }
+    ensures { λ r. ⌜ Put (now (out .entry)) at
+        (encodeAll (map eventForm (eventsIn (zoneOf first (now (ats .entry)) (now (offsets .entry))) (map (eventAt (now (book .entry))) (now (events .entry))) (from .0) (to .0))))
+        (35 * length (found (zoneOf first (now (ats .entry)) (now (offsets .entry))) (map (eventAt (now (book .entry))) (now (events .entry))) (from .0) (to .0)))
+        (now (out .exit)) r ⌝ }
+{
+    let s = search_events(book, first, ats, offsets, events, from, to, Instant(0), 0);
+    let count = s.count;
+    let mut best = s.best;
+    let mut place = at;
+    let mut i: usize = 0;
+    while i < count {
+        match best {
+            Best::None => {
+                return place;
+            }
+            Best::Some(o, index) => {
+                let boundary = o.boundary;
+                let t = boundary.at;
+                place = put_event(out, place, o.code, boundary, o.evidence);
+                let next = search_events(book, first, ats, offsets, events, from, to, t, index + 1);
+                best = next.best;
+            }
+        }
+        i += 1;
+    }
+    place
+}
+
 // The events of a span, one after the other, from `at` on. Answers the place behind them.
 pub fn put_events(
     book: &[u8],
@@ -76,25 +159,25 @@ pub fn put_events(
     if events.len() == 0 {
         return at;
     }
-    let s = search_events(book, first, ats, offsets, events, from, to, Instant(0), 0);
-    let count = s.count;
-    let mut best = s.best;
-    let mut place = at;
-    let mut i: usize = 0;
-    while i < count {
-        match best {
-            Best::None => {
-                return place;
+    let mut when = [0u64; MOST_KEPT];
+    let mut which = [0u32; MOST_KEPT];
+    match collect(
+        book,
+        first,
+        ats,
+        offsets,
+        events,
+        from,
+        to,
+        &mut when,
+        &mut which,
+    ) {
+        Collected::Unsteady => put_sought(book, first, ats, offsets, events, from, to, out, at),
+        Collected::All(n) => {
+            if MOST_KEPT < n {
+                return put_sought(book, first, ats, offsets, events, from, to, out, at);
             }
-            Best::Some(o, index) => {
-                let boundary = o.boundary;
-                let t = boundary.at;
-                place = put_event(out, place, o.code, boundary, o.evidence);
-                let next = search_events(book, first, ats, offsets, events, from, to, t, index + 1);
-                best = next.best;
-            }
+            put_kept(book, &when, &which, n, out, at)
         }
-        i += 1;
     }
-    place
 }

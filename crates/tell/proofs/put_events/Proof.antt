@@ -1,127 +1,59 @@
-use Rattle.events.proofs.Turns.{begun-count}
 use Rattle.events.proofs.Finding.{none-found}
-use Rattle.tell.proofs.Trailing.{put-none, Trailing, trail-start, trail-end, trail-none, trail-index, trail-room, trail-one}
-use Rattle.events.specs.declared.Search.{Search}
-use Rattle.events.specs.Happenings.{found}
-use Rattle.records.specs.Records.{eventAt}
+use Rattle.events.proofs.Collecting.{collects-all}
+use Rattle.tell.proofs.Trailing.{put-none}
+use Rattle.tell.proofs.Kept.{held-put}
 use Rattle.zone.specs.Zone.{zoneOf}
-use lib.ListN.{length}
-use mathlib.Core.List.{map}
-use Prim.Native.Nat.{_-_}
-use mathlib.Core.Path.{_≡_, ap}
-use borrow.Author.Needs.{needs}
 use native.Mathlib.Omega.{arith}
+use borrow.Author.Needs.{needs}
 use Rattle.tell.proofs.put_events.Statement.{statement}
 use Rattle.tell.proofs.put_events.Tie as tie
 
-abbrev Inv-loop : tie.InvT-loop
-Inv-loop book first ats offsets events from to out₀ at count best₀ place₀ i₀ out best place i =
-    (count ≡ length (found (zoneOf first ats offsets) (map (eventAt book) events) (from .0) (to .0)))
-    × Trailing (found (zoneOf first ats offsets) (map (eventAt book) events) (from .0) (to .0)) out₀ at out place i best
-
-abbrev μ-loop : tie.MeasureT-loop
-μ-loop book first ats offsets events from to out₀ at count best₀ place₀ i₀ out best place i = count - i
-
-returns : tie.Need-returns Inv-loop μ-loop
+returns : tie.Need-returns
 returns c =
     let at-start = c .before .before .before .before .before .before in
     put-none ((at-start .args .out) .now) (at-start .args .at) (none-found (zoneOf (at-start .args .first) ((at-start .args .ats) .now) ((at-start .args .offsets) .now)) ((at-start .args .book) .now) ((at-start .args .events) .now) ((at-start .args .from) .0) ((at-start .args .to) .0) (omega (arith, c .if1 .taken)))
 
-search-events-requires : tie.Need-search-events-requires Inv-loop μ-loop
-search-events-requires c κs =
-    let at-start = c .before .before .before .before .before .before in
-    ((at-start .pre) .0, (at-start .pre) .1, (at-start .pre) .2)
+put-kept-requires : tie.Need-put-kept-requires
+put-kept-requires c κs =
+    let at-if2 = c .before .before .before in
+    let at-n = at-if2 .before .before in
+    let at-collect = at-n .before .before .before .before in
+    let at-start = at-collect .before .before .before .before .before .before .before .before .before in
+    let held = collects-all ((at-start .args .book) .now) (at-start .args .first) ((at-start .args .ats) .now) ((at-start .args .offsets) .now) ((at-start .args .events) .now) (at-start .pre .0) (at-start .pre .1) (at-start .args .from .0) (at-start .args .to .0) (at-collect .collect .ensures) (at-n .n .given .1) in (
+      search needs,
+      search needs,
+      held .there (at-if2 .if2 .left),
+      omega (arith, at-start .pre .3, held .count),
+    )
 
-loop-holds : tie.Need-loop-holds Inv-loop μ-loop
-loop-holds c =
-    let at-search-events = c in
-    let at-start = at-search-events .before .before .before .before .before .before .before in
-    (begun-count 0 0 (found (zoneOf (at-start .args .first) ((at-start .args .ats) .now) ((at-start .args .offsets) .now)) (map (eventAt ((at-start .args .book) .now)) ((at-start .args .events) .now)) ((at-start .args .from) .0) ((at-start .args .to) .0)) ((at-search-events .search-events .ensures) .0), trail-start (found (zoneOf (at-start .args .first) ((at-start .args .ats) .now) ((at-start .args .offsets) .now)) (map (eventAt ((at-start .args .book) .now)) ((at-start .args .events) .now)) ((at-start .args .from) .0) ((at-start .args .to) .0)) ((at-start .args .out) .now) (at-start .args .at) ((at-start .pre) .3) (ap (λ (s : Search). s .best) ((at-search-events .search-events .ensures) .0)))
-
-same-length : tie.Need-same-length Inv-loop μ-loop
-same-length c =
-    let at-loop = c .before .before .before in
-    ((at-loop .loop .inv) .1) .kept
-
-returns-2 : tie.Need-returns-2 Inv-loop μ-loop
-returns-2 c =
-    let at-enum-told = c in
-    let at-loop = at-enum-told .before .before .before in
-    let at-start = at-loop .before .before .before .before .before .before .before .before in
-    trail-none (found (zoneOf (at-start .args .first) ((at-start .args .ats) .now) ((at-start .args .offsets) .now)) (map (eventAt ((at-start .args .book) .now)) ((at-start .args .events) .now)) ((at-start .args .from) .0) ((at-start .args .to) .0)) ((at-start .args .out) .now) (at-start .args .at) ((at-loop .loop .inv) .1) ((at-enum-told .enum-told .given) .1)
-
-put-event-requires : tie.Need-put-event-requires Inv-loop μ-loop
-put-event-requires c κs =
-    let at-best = c .before .before .before .before in
-    let at-loop-test = at-best .before .before in
-    let at-loop = at-loop-test .before in
-    let at-start = at-loop .before .before .before .before .before .before .before .before in
-    trail-room (found (zoneOf (at-start .args .first) ((at-start .args .ats) .now) ((at-start .args .offsets) .now)) (map (eventAt ((at-start .args .book) .now)) ((at-start .args .events) .now)) ((at-start .args .from) .0) ((at-start .args .to) .0)) ((at-start .args .out) .now) (at-start .args .at) ((at-loop .loop .inv) .1) (omega (arith, (at-loop-test .loop-test .taken), (at-loop .loop .inv) .0)) _ _ ((at-best .best .given) .1)
-
-add-search-events : tie.Need-add-search-events Inv-loop μ-loop
-add-search-events c =
-    let at-best = c .before .before .before .before .before .before .before in
-    let at-loop-test = at-best .before .before in
-    let at-loop = at-loop-test .before in
-    let at-search-events = at-loop .before in
-    let at-start = at-search-events .before .before .before .before .before .before .before in
-    omega (arith, trail-index (found (zoneOf (at-start .args .first) ((at-start .args .ats) .now) ((at-start .args .offsets) .now)) (map (eventAt ((at-start .args .book) .now)) ((at-start .args .events) .now)) ((at-start .args .from) .0) ((at-start .args .to) .0)) ((at-start .args .out) .now) (at-start .args .at) ((at-loop .loop .inv) .1) (omega (arith, (at-loop-test .loop-test .taken), (at-loop .loop .inv) .0)) _ _ ((at-best .best .given) .1), (at-loop .loop .inv) .0, (at-search-events .search-events .ensures) .1)
-
-search-events-requires-2 : tie.Need-search-events-requires-2 Inv-loop μ-loop
-search-events-requires-2 c κs =
-    let at-start = c .before .before .before .before .before .before .before .before .before .before .before .before .before .before .before .before .before .before in
-    ((at-start .pre) .0, (at-start .pre) .1, (at-start .pre) .2)
-
-add-i : tie.Need-add-i Inv-loop μ-loop
-add-i c =
-    let at-loop-test = c .before .before .before .before .before .before .before .before .before .before in
-    omega (arith, (at-loop-test .loop-test .taken))
-
-loop-less : tie.Need-loop-less Inv-loop μ-loop
-loop-less c =
-    let at-loop-test = c .before .before .before .before .before .before .before .before .before .before in
-    omega (arith, (at-loop-test .loop-test .taken))
-
-loop-again : tie.Need-loop-again Inv-loop μ-loop
-loop-again c =
-    let at-search-events2 = c in
-    let at-put-event = at-search-events2 .before .before .before in
-    let at-best = at-put-event .before .before .before .before .before in
-    let at-loop-test = at-best .before .before in
-    let at-loop = at-loop-test .before in
-    let at-start = at-loop .before .before .before .before .before .before .before .before in
-    ((at-loop .loop .inv) .0, trail-one (found (zoneOf (at-start .args .first) ((at-start .args .ats) .now) ((at-start .args .offsets) .now)) (map (eventAt ((at-start .args .book) .now)) ((at-start .args .events) .now)) ((at-start .args .from) .0) ((at-start .args .to) .0)) ((at-start .args .out) .now) (at-start .args .at) ((at-loop .loop .inv) .1) (omega (arith, (at-loop-test .loop-test .taken), (at-loop .loop .inv) .0)) _ _ ((at-best .best .given) .1) (at-put-event .put-event .ensures) (ap (λ (s : Search). s .best) ((at-search-events2 .search-events2 .ensures) .0)))
-
-same-length-2 : tie.Need-same-length-2 Inv-loop μ-loop
-same-length-2 c =
-    let at-loop = c .before in
-    ((at-loop .loop .inv) .1) .kept
-
-returns-3 : tie.Need-returns-3 Inv-loop μ-loop
-returns-3 c =
-    let at-loop-test = c in
-    let at-loop = at-loop-test .before in
-    let at-start = at-loop .before .before .before .before .before .before .before .before in
-    trail-end (found (zoneOf (at-start .args .first) ((at-start .args .ats) .now) ((at-start .args .offsets) .now)) (map (eventAt ((at-start .args .book) .now)) ((at-start .args .events) .now)) ((at-start .args .from) .0) ((at-start .args .to) .0)) ((at-start .args .out) .now) (at-start .args .at) ((at-loop .loop .inv) .1) (omega (arith, (at-loop-test .loop-test .left), (at-loop .loop .inv) .0))
+returns-4 : tie.Need-returns-4
+returns-4 c =
+    let at-put-kept = c .before .before in
+    let at-if2 = at-put-kept .before .before .before .before in
+    let at-n = at-if2 .before .before in
+    let at-collect = at-n .before .before .before .before in
+    let at-start = at-collect .before .before .before .before .before .before .before .before .before in
+    let held = collects-all ((at-start .args .book) .now) (at-start .args .first) ((at-start .args .ats) .now) ((at-start .args .offsets) .now) ((at-start .args .events) .now) (at-start .pre .0) (at-start .pre .1) (at-start .args .from .0) (at-start .args .to .0) (at-collect .collect .ensures) (at-n .n .given .1) in
+    held-put held (at-if2 .if2 .left) (at-if2 .if2 .left) (at-put-kept .put-kept .ensures)
 
 pub put-events-spec : {M : Type 1} → statement M
 put-events-spec =
     tie.close
     (tie.spec
-    Inv-loop
-    μ-loop
     returns
-    search-events-requires
-    loop-holds
     (λ c. search needs)
-    same-length
-    returns-2
     (λ c. search needs)
-    put-event-requires
-    add-search-events
-    search-events-requires-2
-    add-i
-    loop-less
-    loop-again
-    same-length-2
-    returns-3)
+    (λ c κs. search needs)
+    (λ c. search needs)
+    (λ c κs. search needs)
+    (λ c. search needs)
+    (λ c κs. search needs)
+    (λ c. search needs)
+    (λ c. search needs)
+    (λ c. search needs)
+    (λ c. search needs)
+    put-kept-requires
+    (λ c. search needs)
+    (λ c. search needs)
+    (λ c. search needs)
+    returns-4)
