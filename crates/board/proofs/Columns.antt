@@ -1,8 +1,9 @@
--- A window cut into columns: floors of products that are never made. Assumes nothing.
+-- A window cut into columns: floors of products that may need more than 64 bits. Assumes nothing.
 use mathlib.Core.Path.{_≡_, refl, sym, ap, _∙_}
 use mathlib.Core.Bool.{Bool, true, false}
-use Prim.Native.Nat.{ℕ, _+_, _-_, _*_, _/_, _%_, _^_, _≤_, _<_}
-use native.Mathlib.Nat.{div-add-mod, mul-add-div, mul-add-div-right, div-eq-of-lt, div-le-of-le-mul, div-lt-iff-lt-mul, le-div-iff-mul-le, div-mul-le-self, mod-lt, add-mul, mul-assoc, mul-comm, mul-suc, suc-mul, mul-le-mul, mul-le-mul-left, mul-lt-mul-of-pos-left, mul-lt-mul-of-pos-right}
+use Prim.Native.Nat.{ℕ, suc, _+_, _-_, _*_, _/_, _%_, _^_, _≤_, _<_}
+use native.Mathlib.Nat.{div-add-mod, mul-add-div, mul-add-div-right, mul-add-mod-self-left, div-eq-of-lt, mod-eq-of-lt, zero-div, zero-mod, div-le-of-le-mul, div-lt-iff-lt-mul, le-div-iff-mul-le, div-mul-le-self, mod-lt, mul-add, add-mul, zero-mul, mul-zero, mul-comm, mul-suc, le-mul-of-pos-right, mul-le-mul-left, mul-le-mul-right, mul-lt-mul-of-pos-left, mul-lt-mul-of-pos-right}
+use native.Mathlib.Decide.{decLt}
 use native.Mathlib.Numerals.{add-one}
 use native.Mathlib.Omega.{arith}
 use borrow.Author.Tests.{le-leb, lt-leb, lt-ltb, le-ltb}
@@ -11,8 +12,11 @@ use mir.Syntax.{w64}
 use Rattle.wire.specs.Signs.{half, placed}
 use Rattle.wire.proofs.Signs.{and-no}
 use Rattle.board.specs.Cells.{columnsOf, cellInstant, markerColumn}
-use Rattle.board.specs.Private.{Good}
+use Rattle.board.specs.Private.{Good, PaceOf, ColumnOf, amount, Small, Sum}
 use Rattle.board.specs.declared.grid.Grid.{Grid}
+use Rattle.board.specs.declared.grid.Pace.{Pace}
+use Rattle.board.specs.declared.grid.Column.{Column}
+use Rattle.board.specs.declared.grid.Mixed.{Mixed}
 
 -- ---- columns
 
@@ -40,14 +44,6 @@ columns-some (negsuc n) = omega arith
 -- ---- a cell's instant
 
 module _ (s k : ℕ) (h : 0 < k) where
-  -- floor(s x c / k), of the quotient and the remainder of s
-  pub floor-split : (c : ℕ) → s / k * c + s % k * c / k ≡ s * c / k
-  floor-split c =
-      let q = s / k in
-      let r = s % k in
-      let w : (k * q + r) * c ≡ k * (q * c) + r * c = add-mul (k * q) r c ∙ ap (λ (x : ℕ). x + r * c) (mul-assoc k q c) in
-      sym (ap (λ (x : ℕ). x * c / k) (sym (div-add-mod s k)) ∙ ap (λ (x : ℕ). x / k) w ∙ mul-add-div h (q * c) (r * c))
-
   pub floor-most : (c : ℕ) → c ≤ k → s * c / k ≤ s
   floor-most c l = let m : s * c ≤ s * k = mul-le-mul-left s l in div-le-of-le-mul k (omega (arith, m, mul-comm s k))
 
@@ -61,11 +57,40 @@ module _ (s k : ℕ) (h : 0 < k) where
       let m : s * i ≤ s * j = mul-le-mul-left s l in
       le-div-iff-mul-le h .1 (omega (arith, m, div-mul-le-self (s * i) k))
 
-  pub part-few : (c : ℕ) → k ≤ 512 → c < k → s % k * c ≤ 512 * 512
-  part-few c f l =
-      let a : s % k ≤ 512 = omega (arith, mod-lt s h) in
-      let b : c ≤ 512 = omega arith in
-      mul-le-mul a b
+  -- the quotient and the remainder of a number that is so many k and less than k
+  module _ (n q r : ℕ) (e : n ≡ k * q + r) (l : r < k) where
+    quotient : n / k ≡ q
+    quotient =
+        let d : r / k ≡ 0 = div-eq-of-lt l in
+        ap (λ (x : ℕ). x / k) e ∙ mul-add-div h q r ∙ omega (arith, d)
+
+    remainder : n % k ≡ r
+    remainder = ap (λ (x : ℕ). x % k) e ∙ mul-add-mod-self-left k q r ∙ mod-eq-of-lt l
+
+  module _ (c : ℕ) where
+    one-more : s * (c + 1) ≡ k * (s * c / k + s / k) + (s * c % k + s % k)
+    one-more =
+        let m : s * (c + 1) ≡ s * c + s = ap (λ (x : ℕ). s * x) (add-one c) ∙ mul-suc s c in
+        let u : k * (s * c / k) + s * c % k ≡ s * c = div-add-mod (s * c) k in
+        let v : k * (s / k) + s % k ≡ s = div-add-mod s k in
+        let w : k * (s * c / k + s / k) ≡ k * (s * c / k) + k * (s / k) = mul-add k (s * c / k) (s / k) in
+        omega (arith, m, u, v, w)
+
+    -- the floor of the next column: the parts make no column, or one
+    pub floor-on : s * c % k + s % k < k → (s * (c + 1) / k ≡ s * c / k + s / k) × (s * (c + 1) % k ≡ s * c % k + s % k)
+    floor-on l =
+        let q = s * c / k + s / k in
+        let r = s * c % k + s % k in
+        (quotient (s * (c + 1)) q r one-more l, remainder (s * (c + 1)) q r one-more l)
+
+    pub floor-over : k ≤ s * c % k + s % k → (s * (c + 1) / k ≡ s * c / k + s / k + 1) × (s * (c + 1) % k ≡ s * c % k + s % k - k)
+    floor-over l =
+        let q = s * c / k + s / k + 1 in
+        let r = s * c % k + s % k - k in
+        let m : k * q ≡ k * (s * c / k + s / k) + k = ap (λ (x : ℕ). k * x) (add-one (s * c / k + s / k)) ∙ mul-suc k (s * c / k + s / k) in
+        let e : s * (c + 1) ≡ k * q + r = omega (arith, m, one-more) in
+        let b : r < k = omega (arith, mod-lt (s * c) h, mod-lt s h) in
+        (quotient (s * (c + 1)) q r e b, remainder (s * (c + 1)) q r e b)
 
 module _ (g : Grid) (o : Good g) where
   pub instant-rises : (i j : ℕ) → i ≤ j → cellInstant g i ≤ cellInstant g j
@@ -75,27 +100,49 @@ module _ (g : Grid) (o : Good g) where
   pub instant-in : (c : ℕ) → c < g .columns → cellInstant g c < g .start + g .span
   instant-in c l = omega (arith, floor-less (g .span) (g .columns) (o .some) c l (o .long))
 
-  module _ (c : ℕ) (l : c < g .columns) where
-    split : g .span / g .columns * c + g .span % g .columns * c / g .columns ≡ g .span * c / g .columns
-    split = floor-split (g .span) (g .columns) (o .some) c
+  pub first-column : ColumnOf g (record { c = 0; at = g .start; part = 0 })
+  first-column =
+      let z : g .span * 0 ≡ 0 = mul-zero (g .span) in
+      let q : g .span * 0 / g .columns ≡ 0 = ap (λ (x : ℕ). x / g .columns) z ∙ zero-div (g .columns) in
+      let r : g .span * 0 % g .columns ≡ 0 = ap (λ (x : ℕ). x % g .columns) z ∙ zero-mod (g .columns) in
+      record { inside = omega arith; at = omega (arith, q); part = sym r }
 
-    most : g .span * c / g .columns ≤ g .span
-    most = floor-most (g .span) (g .columns) (o .some) c (omega arith)
+  module _ (p : Pace) (w : PaceOf g p) (x : Column) (a : ColumnOf g x) (l : x .c < g .columns) where
+    in-window : (c : ℕ) → c ≤ g .columns → cellInstant g c < 2 ^ 64
+    in-window c h = omega (arith, floor-most (g .span) (g .columns) (o .some) c h, o .end)
 
-    pub whole-fits : g .span / g .columns * c < 2 ^ 64
-    whole-fits = omega (arith, split, most, o .end)
+    pub rest-less : p .rest < g .columns
+    rest-less = omega (arith, w .rest, mod-lt (g .span) (o .some))
 
-    pub part-fits : g .span % g .columns * c < 2 ^ 64
-    part-fits = omega (arith, part-few (g .span) (g .columns) (o .some) c (o .few) l)
+    module _ (h : x .part < g .columns - p .rest) where
+      on : (g .span * (x .c + 1) / g .columns ≡ g .span * x .c / g .columns + g .span / g .columns) × (g .span * (x .c + 1) % g .columns ≡ g .span * x .c % g .columns + g .span % g .columns)
+      on = floor-on (g .span) (g .columns) (o .some) (x .c) (omega (arith, a .part, w .rest, rest-less))
 
-    pub sum-fits : g .span / g .columns * c + g .span % g .columns * c / g .columns < 2 ^ 64
-    sum-fits = omega (arith, split, most, o .end)
+      pub on-fits : x .at + p .whole < 2 ^ 64
+      on-fits = omega (arith, a .at, w .whole, on .0, in-window (x .c + 1) (omega arith))
 
-    pub instant-fits : g .start + (g .span / g .columns * c + g .span % g .columns * c / g .columns) < 2 ^ 64
-    instant-fits = omega (arith, split, most, o .end)
+      pub column-on : ColumnOf g (record { c = x .c + 1; at = x .at + p .whole; part = x .part + p .rest })
+      column-on =
+          record {
+            inside = omega arith;
+            at = omega (arith, a .at, w .whole, on .0);
+            part = omega (arith, a .part, w .rest, on .1);
+          }
 
-    pub instant-is : g .start + (g .span / g .columns * c + g .span % g .columns * c / g .columns) ≡ cellInstant g c
-    instant-is = ap (λ (x : ℕ). g .start + x) split
+    module _ (h : g .columns - p .rest ≤ x .part) where
+      over : (g .span * (x .c + 1) / g .columns ≡ g .span * x .c / g .columns + g .span / g .columns + 1) × (g .span * (x .c + 1) % g .columns ≡ g .span * x .c % g .columns + g .span % g .columns - g .columns)
+      over = floor-over (g .span) (g .columns) (o .some) (x .c) (omega (arith, a .part, w .rest, rest-less))
+
+      pub over-fits : x .at + p .whole + 1 < 2 ^ 64
+      over-fits = omega (arith, a .at, w .whole, over .0, in-window (x .c + 1) (omega arith))
+
+      pub column-over : ColumnOf g (record { c = x .c + 1; at = x .at + p .whole + 1; part = x .part - (g .columns - p .rest) })
+      column-over =
+          record {
+            inside = omega arith;
+            at = omega (arith, a .at, w .whole, over .0);
+            part = omega (arith, a .part, w .rest, rest-less, over .1);
+          }
 
 -- ---- the marker's column
 
@@ -112,36 +159,74 @@ module _ (start end columns : ℕ) (marked : Bool) (at : ℕ) where
   pub marker-in : marked ≡ true → start ≤ at → at < end → (r : ℕ) → r ≡ (at - start) * columns / (end - start) → r ≡ markerColumn start end columns marked at
   marker-in e a b r q = simp (e, le-leb start at a, lt-ltb at end b) q
 
--- c times what is gone is so many spans and a part
-pub record Shared (gone span c whole part : ℕ) : Type 0 where
-  pub sum : gone * c ≡ whole * span + part
-  pub less : part < span
-  pub few : whole ≤ c
+-- what is gone in 416 days, for each column
+pub short-fits : (gone columns : ℕ) → gone ≤ 2 ^ 55 - 1 → columns ≤ 512 → gone * columns < 2 ^ 64
+short-fits gone columns s f =
+    let m : gone * columns ≤ gone * 512 = mul-le-mul-left gone f in
+    omega arith
+
+-- the sum, and the term as often as is left, are what is gone for each column
+pub record Sharing (gone columns span : ℕ) (sum term : Mixed) (left : ℕ) : Type 0 where
+  pub total : amount span sum + amount span term * left ≡ gone * columns
+  pub sum-part : sum .part < span
+  pub term-part : term .part < span
+
+module _ (gone columns span : ℕ) (h : gone < span) (few : columns ≤ 512) where
+  pub share-start : Sharing gone columns span (record { whole = 0; part = 0 }) (record { whole = 0; part = gone }) columns
+  share-start =
+      let z : 0 * span ≡ 0 = zero-mul span in
+      let m : (0 * span + gone) * columns ≡ gone * columns = ap (λ (x : ℕ). x * columns) (omega (arith, z)) in
+      record { total = omega (arith, z, m); sum-part = omega arith; term-part = h }
+
+  whole-few : (w : ℕ) → w * span ≤ gone * columns → w ≤ 512
+  whole-few w l = go (decLt 512 w)
+    where
+      go : Dec (512 < w) → w ≤ 512
+      go (no n) = omega arith
+      go (yes y) =
+          let a : 513 * span ≤ w * span = mul-le-mul-right span (omega arith) in
+          let b : gone * columns ≤ gone * 512 = mul-le-mul-left gone few in
+          absurd (omega arith)
+
+  module _ (sum term : Mixed) (left : ℕ) (i : Sharing gone columns span sum term left) where
+    pub sum-small : Small span sum
+    sum-small = record { part = i .sum-part; few = whole-few (sum .whole) (omega (arith, i .total)) }
+
+    pub share-end : left ≤ 0 → sum .whole ≡ gone * columns / span
+    share-end e =
+        let z : left ≡ 0 = omega arith in
+        let m : amount span term * left ≡ 0 = ap (λ (x : ℕ). amount span term * x) z ∙ mul-zero (amount span term) in
+        let t : gone * columns ≡ sum .whole * span + sum .part = omega (arith, m, i .total) in
+        let p : 0 < span = omega arith in
+        let d : sum .part / span ≡ 0 = div-eq-of-lt (i .sum-part) in
+        let w : (sum .whole * span + sum .part) / span ≡ sum .whole + sum .part / span = mul-add-div-right p (sum .whole) (sum .part) in
+        sym (ap (λ (x : ℕ). x / span) t ∙ w ∙ omega (arith, d))
+
+    module _ (l : 0 < left) where
+      pub term-small : Small span term
+      term-small =
+          let m : amount span term ≤ amount span term * left = le-mul-of-pos-right (amount span term) l in
+          record { part = i .term-part; few = whole-few (term .whole) (omega (arith, i .total, m)) }
+
+      module _ (twice : Mixed) (d : Sum span term term twice) where
+        doubled : amount span twice * (left / 2) ≡ amount span term * (left / 2) + amount span term * (left / 2)
+        doubled = ap (λ (x : ℕ). x * (left / 2)) (d .same) ∙ add-mul (amount span term) (amount span term) (left / 2)
+
+        halves : amount span term * (left / 2 + left / 2) ≡ amount span term * (left / 2) + amount span term * (left / 2)
+        halves = mul-add (amount span term) (left / 2) (left / 2)
+
+        pub share-even : left % 2 ≡ 0 → Sharing gone columns span sum twice (left / 2)
+        share-even e =
+            let m : amount span term * left ≡ amount span term * (left / 2 + left / 2) = ap (λ (x : ℕ). amount span term * x) (omega arith) in
+            record { total = omega (arith, i .total, doubled, halves, m); sum-part = i .sum-part; term-part = d .part }
+
+        pub share-odd : left % 2 ≡ 1 → (more : Mixed) → Sum span sum term more → Sharing gone columns span more twice (left / 2)
+        share-odd e more q =
+            let m : amount span term * left ≡ amount span term * suc (left / 2 + left / 2) = ap (λ (x : ℕ). amount span term * x) (omega arith) in
+            let n : amount span term * suc (left / 2 + left / 2) ≡ amount span term * (left / 2 + left / 2) + amount span term = mul-suc (amount span term) (left / 2 + left / 2) in
+            record { total = omega (arith, i .total, q .same, doubled, halves, m, n); sum-part = q .part; term-part = d .part }
 
 module _ (gone span : ℕ) (h : gone < span) where
-  pub shared-none : Shared gone span 0 0 0
-  shared-none = record { sum = omega arith; less = omega arith; few = omega arith }
-
-  module _ (c whole part : ℕ) (o : Shared gone span c whole part) where
-    pub shared-in : part < span - gone → Shared gone span (c + 1) whole (part + gone)
-    shared-in l =
-        let m : gone * (c + 1) ≡ gone * c + gone = ap (λ (x : ℕ). gone * x) (add-one c) ∙ mul-suc gone c in
-        record { sum = omega (arith, m, o .sum); less = omega arith; few = omega (arith, o .few) }
-
-    pub shared-over : span - gone ≤ part → Shared gone span (c + 1) (whole + 1) (part - (span - gone))
-    shared-over l =
-        let m : gone * (c + 1) ≡ gone * c + gone = ap (λ (x : ℕ). gone * x) (add-one c) ∙ mul-suc gone c in
-        let n : (whole + 1) * span ≡ whole * span + span = ap (λ (x : ℕ). x * span) (add-one whole) ∙ suc-mul whole span in
-        record { sum = omega (arith, m, n, o .sum, o .less); less = omega (arith, o .less); few = omega (arith, o .few) }
-
-    pub shared-whole : (columns : ℕ) → c ≡ columns → whole ≡ gone * columns / span
-    shared-whole columns e =
-        let z : gone * columns ≡ whole * span + part = ap (λ (x : ℕ). gone * x) (sym e) ∙ o .sum in
-        let p : 0 < span = omega arith in
-        let d : part / span ≡ 0 = div-eq-of-lt (o .less) in
-        let w : (whole * span + part) / span ≡ whole + part / span = mul-add-div-right p whole part in
-        sym (ap (λ (x : ℕ). x / span) z ∙ w ∙ omega (arith, d))
-
   -- the marker's column is one of the columns
   pub share-below : (columns : ℕ) → 0 < columns → gone * columns / span < columns
   share-below columns p =

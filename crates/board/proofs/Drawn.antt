@@ -105,18 +105,18 @@ module _ (g : Grid) (o : Good g) (first limit byte : ℕ) (old : List ℕ) (room
 
   module _ (new : List ℕ) (c : ℕ) (f : Filling g first limit byte old new c) where
     pub fill-one : c < g .columns → (t : ℕ) → t ≡ cellInstant g c → t < limit → (v : ℕ) → v ≡ cellOr (g .marker) c byte
-        → Filling g first limit byte old (set new (1 + c) v) (c + 1)
-    fill-one h t e l v q =
+        → (d : ℕ) → d ≡ c + 1 → Filling g first limit byte old (set new (1 + c) v) d
+    fill-one h t e l v q d j =
         let n = c - first in
         let a = f .after in
         let k = f .kept in
-        let z : c + 1 - first ≡ suc n = omega arith in
+        let z : d - first ≡ suc n = omega arith in
         let w : first + n ≡ c = omega arith in
         let y : 1 + c ≡ 1 + first + length (alike g byte n first) = omega (arith, alike-length g byte n first) in
         let one : set new (1 + c) v ≡ wrote new (1 + c) (v ∷ []) = set-wrote new (1 + c) v (omega arith) in
         let both : wrote (wrote old (1 + first) (alike g byte n first)) (1 + c) (v ∷ []) ≡ wrote old (1 + first) (alike g byte n first ++ v ∷ []) =
         wrote-wrote old (1 + first) (1 + c) (alike g byte n first) (v ∷ []) y (omega arith) in
-        let more : alike g byte n first ++ v ∷ [] ≡ alike g byte (c + 1 - first) first =
+        let more : alike g byte n first ++ v ∷ [] ≡ alike g byte (d - first) first =
         ap (λ (x : ℕ). alike g byte n first ++ x ∷ []) (q ∙ ap (λ (x : ℕ). cellOr (g .marker) x byte) (sym w))
         ∙ sym (alike-more g byte n first) ∙ ap (λ (m : ℕ). alike g byte m first) (sym z) in
         record {
@@ -127,12 +127,12 @@ module _ (g : Grid) (o : Good g) (first limit byte : ℕ) (old : List ℕ) (room
           before = λ i p r. until i p r;
         }
       where
-        until : (i : ℕ) → first ≤ i → i < c + 1 → cellInstant g i < limit
+        until : (i : ℕ) → first ≤ i → i < d → cellInstant g i < limit
         until i p r = go (decLt i c)
           where
             go : Dec (i < c) → cellInstant g i < limit
             go (yes b) = f .before i p b
-            go (no b) = let z : i ≡ c = omega arith in rw z (omega arith)
+            go (no b) = let z : i ≡ c = omega (arith, j, r, b) in rw z (omega (arith, e, l))
 
     pub fill-limit : (t : ℕ) → t ≡ cellInstant g c → limit ≤ t → Filled g first limit byte old new c
     fill-limit t e l =

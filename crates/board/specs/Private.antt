@@ -1,5 +1,5 @@
 -- What the private functions answer. Assumes nothing.
-use Prim.Native.Nat.{ℕ, zero, suc, _+_, _-_, _^_, _≤_, _<_}
+use Prim.Native.Nat.{ℕ, zero, suc, _+_, _-_, _*_, _/_, _%_, _^_, _≤_, _<_}
 use mathlib.Core.Path.{_≡_}
 use mathlib.Core.Bool.{Bool, true, false, cond}
 use mathlib.Core.List.{List, [], _∷_}
@@ -19,6 +19,9 @@ use Rattle.board.specs.declared.Class.the-variants.{Trading, NotTrading,
 use Rattle.board.specs.declared.classing.Classed.{Classed}
 use Rattle.board.specs.declared.counting.Counts.{Counts}
 use Rattle.board.specs.declared.grid.Grid.{Grid}
+use Rattle.board.specs.declared.grid.Pace.{Pace}
+use Rattle.board.specs.declared.grid.Column.{Column}
+use Rattle.board.specs.declared.grid.Mixed.{Mixed}
 
 -- what a segment shows
 abbrev pub markOf : Shows → Mark
@@ -85,6 +88,29 @@ pub record Good (g : Grid) : Type 0 where
   pub few : g .columns ≤ 512
   pub long : 0 < g .span
   pub end : g .start + g .span < 2 ^ 64
+
+-- the quotient and the remainder of the span by the columns
+pub record PaceOf (g : Grid) (p : Pace) : Type 0 where
+  pub whole : p .whole ≡ g .span / g .columns
+  pub rest : p .rest ≡ g .span % g .columns
+
+-- one of the columns, or the one behind them all, with its instant and the remainder of the division in that instant
+pub record ColumnOf (g : Grid) (x : Column) : Type 0 where
+  pub inside : x .c ≤ g .columns
+  pub at : x .at ≡ cellInstant g (x .c)
+  pub part : x .part ≡ g .span * x .c % g .columns
+
+-- how much a mixed number of spans is
+abbrev pub amount : ℕ → Mixed → ℕ
+amount span a = a .whole * span + a .part
+
+pub record Small (span : ℕ) (a : Mixed) : Type 0 where
+  pub part : a .part < span
+  pub few : a .whole ≤ 512
+
+pub record Sum (span : ℕ) (a b r : Mixed) : Type 0 where
+  pub same : amount span r ≡ amount span a + amount span b
+  pub part : r .part < span
 
 -- n cells from the cell c on that show one byte, but for the marker
 unfoldable pub alike : Grid → ℕ → ℕ → ℕ → List ℕ

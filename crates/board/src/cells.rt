@@ -9,15 +9,18 @@ ghost use Rattle.records.specs.Book.{inside, instants};
 ghost use Rattle.lend.specs.Lending.{Lent};
 ghost use Rattle.rows.specs.Rows.{goodRow, segments};
 ghost use Rattle.board.specs.Cells.{phaseGlyph, glyph, cellOr, cellsFrom, judgedCells, text, cellsNumber, cellsAnswer};
-ghost use Rattle.board.specs.Private.{Good, markOf, Filled};
+ghost use Rattle.board.specs.Private.{Good, PaceOf, ColumnOf, markOf, Filled};
 use crate::BAD_ROW;
 use crate::NO_ROOM;
 use crate::TOO_MANY;
+use crate::grid::Column;
 use crate::grid::Grid;
 use crate::grid::MOST;
+use crate::grid::Pace;
 use crate::grid::columns_of;
-use crate::grid::instant_at;
 use crate::grid::marker_of;
+use crate::grid::next_column;
+use crate::grid::pace_of;
 use lend::Reply;
 use lend::answered;
 use lend::refused;
@@ -74,41 +77,47 @@ fn cell_or(marker: u64, c: u64, byte: u8) -> u8
 }
 
 // The columns from a first one on whose instant is before a limit. Answers the column behind them.
-fn fill(out: &mut [u8], grid: Grid, first: u64, limit: u64, byte: u8) -> u64
-    requires { ⌜ Good grid × (first ≤ grid .columns) × (grid .columns + 2 ≤ length (now out)) ⌝ }
-    ensures { λ r. ⌜ Filled grid first limit byte (now (out .entry)) (now (out .exit)) r ⌝ }
+fn fill(out: &mut [u8], grid: Grid, pace: Pace, first: Column, limit: u64, byte: u8) -> Column
+    requires { ⌜ Good grid × PaceOf grid pace × ColumnOf grid first × (grid .columns + 2 ≤ length (now out)) ⌝ }
+    ensures { λ r. ⌜ ColumnOf grid r × Filled grid (first .c) limit byte (now (out .entry)) (now (out .exit)) (r .c) ⌝ }
 {
-    let mut c = first;
-    while c < grid.columns {
-        if limit <= instant_at(grid, c) {
-            return c;
+    let mut column = first;
+    while column.c < grid.columns {
+        if limit <= column.at {
+            return column;
         }
+        let c = column.c;
         out[1 + c as usize] = cell_or(grid.marker, c, byte);
-        c += 1;
+        column = next_column(grid, pace, column);
     }
-    c
+    column
 }
 
 fn put_cells(row: &[u8], grid: Grid, out: &mut [u8])
     requires { ⌜ (goodRow (now row) ≡ true) × Good grid × (grid .columns + 2 ≤ length (now out)) ⌝ }
     ensures { λ r. ⌜ now (out .exit) ≡ wrote (now (out .entry)) 1 (cellsFrom grid (segments (now (row .entry))) (grid .columns) 0) ⌝ }
 {
+    let pace = pace_of(grid);
     let mut at: usize = 0;
-    let mut c: u64 = 0;
-    while c < grid.columns {
+    let mut column = Column {
+        c: 0,
+        at: grid.start,
+        part: 0,
+    };
+    while column.c < grid.columns {
         match read_at(row, at) {
             Read::End => {
-                c = fill(out, grid, c, LAST, BLANK);
+                column = fill(out, grid, pace, column, LAST, BLANK);
             }
             Read::Mark(number, behind) => {
-                c = fill(out, grid, c, LAST, BLANK);
+                column = fill(out, grid, pace, column, LAST, BLANK);
             }
             Read::Seen(g) => {
                 let from = g.from;
                 let to = g.to;
                 let shows = g.shows;
-                let held = fill(out, grid, c, from.0, BLANK);
-                c = fill(out, grid, held, to.0, glyph_of(shows));
+                let held = fill(out, grid, pace, column, from.0, BLANK);
+                column = fill(out, grid, pace, held, to.0, glyph_of(shows));
                 at = g.behind;
             }
         }

@@ -1,9 +1,9 @@
-// A window cut into columns. Its span needs more than 63 bits and the products of spans and columns more than 64, so they are never made:
-// quotients and remainders give the floor of the true product.
-ghost use Prim.Native.Nat.{_*_, _/_, _<_};
+// A window cut into columns. Its span needs more than 63 bits and the products of spans and columns more than 64. Where one may not fit it is
+// not made: quotients and remainders give the floor of the true product.
+ghost use Prim.Native.Nat.{_+_, _*_, _/_, _≤_, _<_};
 ghost use mathlib.Core.Path.{_≡_};
-ghost use Rattle.board.specs.Cells.{columnsOf, cellInstant, markerColumn};
-ghost use Rattle.board.specs.Private.{Good};
+ghost use Rattle.board.specs.Cells.{columnsOf, markerColumn};
+ghost use Rattle.board.specs.Private.{Good, PaceOf, ColumnOf, Small, Sum};
 use wire::Placed;
 use wire::place;
 
@@ -16,11 +16,33 @@ pub(crate) struct Grid {
     pub(crate) marker: u64,
 }
 
+// From a column's instant to the next one's: the quotient and the remainder of the span by the columns.
+pub(crate) struct Pace {
+    pub(crate) whole: u64,
+    pub(crate) rest: u64,
+}
+
+// A column, the instant that it shows, and the remainder of the division in that instant: span x c by the columns.
+pub(crate) struct Column {
+    pub(crate) c: u64,
+    pub(crate) at: u64,
+    pub(crate) part: u64,
+}
+
+// A mixed number of spans: so many, and a part of one.
+struct Mixed {
+    whole: u64,
+    part: u64,
+}
+
 const HALF: u64 = 0x8000_0000_0000_0000;
 
 const FEWEST: u64 = 12;
 
 pub(crate) const MOST: u64 = 512;
+
+// 416 days: times the most columns it is less than 2^64.
+const SHORT: u64 = 0x7f_ffff_ffff_ffff;
 
 pub(crate) fn columns_of(columns: i64) -> u64
     ensures { λ r. ⌜ r ≡ columnsOf columns ⌝ }
@@ -32,37 +54,79 @@ pub(crate) fn columns_of(columns: i64) -> u64
     p - HALF
 }
 
-// The instant that a cell shows.
-pub(crate) fn instant_at(grid: Grid, c: u64) -> u64
-    requires { ⌜ Good grid × (c < grid .columns) ⌝ }
-    ensures { λ r. ⌜ r ≡ cellInstant grid c ⌝ }
+// The one division; the columns then go on by sums.
+pub(crate) fn pace_of(grid: Grid) -> Pace
+    requires { ⌜ Good grid ⌝ }
+    ensures { λ r. ⌜ PaceOf grid r ⌝ }
 {
-    let whole = grid.span / grid.columns;
-    let part = grid.span % grid.columns;
-    grid.start + (whole * c + part * c / grid.columns)
+    Pace {
+        whole: grid.span / grid.columns,
+        rest: grid.span % grid.columns,
+    }
 }
 
-// floor(gone x columns / span) of what is gone of a span: it is added once for each column, and the span taken out where it is reached.
+// The column behind one. The remainders are added, and make a nanosecond more where they reach the columns.
+pub(crate) fn next_column(grid: Grid, pace: Pace, column: Column) -> Column
+    requires { ⌜ Good grid × PaceOf grid pace × ColumnOf grid column × (column .c < grid .columns) ⌝ }
+    ensures { λ r. ⌜ ColumnOf grid r × (r .c ≡ column .c + 1) ⌝ }
+{
+    if column.part < grid.columns - pace.rest {
+        return Column {
+            c: column.c + 1,
+            at: column.at + pace.whole,
+            part: column.part + pace.rest,
+        };
+    }
+    Column {
+        c: column.c + 1,
+        at: column.at + pace.whole + 1,
+        part: column.part - (grid.columns - pace.rest),
+    }
+}
+
+// Two of them together. Their parts may make a span more.
+fn plus(a: Mixed, b: Mixed, span: u64) -> Mixed
+    requires { ⌜ Small span a × Small span b ⌝ }
+    ensures { λ r. ⌜ Sum span a b r ⌝ }
+{
+    if a.part < span - b.part {
+        return Mixed {
+            whole: a.whole + b.whole,
+            part: a.part + b.part,
+        };
+    }
+    Mixed {
+        whole: a.whole + b.whole + 1,
+        part: a.part - (span - b.part),
+    }
+}
+
+// floor(gone x columns / span) of what is gone of a span. Where the product may not fit, by doubling: a step for each bit of the columns.
 fn share(gone: u64, columns: u64, span: u64) -> u64
-    requires { ⌜ gone < span ⌝ }
+    requires { ⌜ (gone < span) × (columns ≤ 512) ⌝ }
     ensures { λ r. ⌜ r ≡ gone * columns / span ⌝ }
 {
-    let mut c: u64 = 0;
-    let mut whole: u64 = 0;
-    let mut part: u64 = 0;
-    while c < columns {
-        if part < span - gone {
-            part += gone;
-        } else {
-            part -= span - gone;
-            whole += 1;
-        }
-        c += 1;
+    if gone <= SHORT {
+        return gone * columns / span;
     }
-    whole
+    let mut sum = Mixed { whole: 0, part: 0 };
+    let mut term = Mixed {
+        whole: 0,
+        part: gone,
+    };
+    let mut left = columns;
+    while 0 < left {
+        if left % 2 == 1 {
+            sum = plus(sum, term, span);
+        }
+        term = plus(term, term, span);
+        left /= 2;
+    }
+    sum.whole
 }
 
 pub(crate) fn marker_of(start: Placed, end: Placed, columns: u64, marked: bool, at: Placed) -> u64
+    requires { ⌜ columns ≤ 512 ⌝ }
     ensures { λ r. ⌜ r ≡ markerColumn (start .0) (end .0) columns marked (at .0) ⌝ }
 {
     if !marked {

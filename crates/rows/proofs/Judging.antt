@@ -4,7 +4,8 @@ use mathlib.Core.Bool.{Bool, true, false, _&&_}
 use mathlib.Core.List.{List}
 use Prim.Native.Nat.{ℕ, zero, suc, _+_, _-_, _*_, _≤_, _<_}
 use native.Mathlib.Omega.{arith}
-use borrow.Author.Tests.{le-leb, lt-leb, ne-eqb}
+use native.Mathlib.Decide.{ℕ-discrete}
+use borrow.Author.Tests.{le-leb, lt-leb, eq-eqb, ne-eqb}
 use lib.Dec.{ltb, leb, eqb}
 use lib.ListN.{length}
 use Rattle.wire.specs.Fields.{field}
@@ -17,6 +18,14 @@ use Rattle.wire.specs.declared.sign.Placed.{Placed}
 use Rattle.rows.specs.declared.Shows.the-variants.{Phase, Unknown}
 use Rattle.rows.proofs.Turns.{phase-holds, gap-holds, mark-holds, events-room, at-end, phase-early, phase-miscounted, phase-on, gap-early, gap-on, other, mark-on}
 
+at-once : (z y l k : ℕ) → z < 65536 → l < 65536 → eqb (z + 65536 * y) (l + 65536 * k) ≡ (eqb z l && eqb y k)
+at-once z y l k u v = go (ℕ-discrete z l) (ℕ-discrete y k)
+  where
+    go : Dec (z ≡ l) → Dec (y ≡ k) → eqb (z + 65536 * y) (l + 65536 * k) ≡ (eqb z l && eqb y k)
+    go (yes a) (yes b) = simp (eq-eqb (z + 65536 * y) (l + 65536 * k) (omega arith), eq-eqb z l a, eq-eqb y k b)
+    go (yes a) (no b) = simp (ne-eqb (z + 65536 * y) (l + 65536 * k) (λ e. b (omega arith)), ne-eqb y k b, eq-eqb z l a)
+    go (no a) d = simp (ne-eqb (z + 65536 * y) (l + 65536 * k) (λ e. a (omega arith)), ne-eqb z l a)
+
 module _ (s : List ℕ) (at : ℕ) where
   pub framed-short : (k l : ℕ) → at ≤ length s → length s - at < 2 + l → false ≡ framed k l s at
   framed-short k l i h = let z : length s < at + 2 + l = omega arith in simp (lt-leb (at + 2 + l) (length s) z)
@@ -25,6 +34,11 @@ module _ (s : List ℕ) (at : ℕ) where
   framed-by k l z y i h a b =
       let w : at + 2 + l ≤ length s = omega arith in
       rw (size-by s at z a, b) (simp (le-leb (at + 2 + l) (length s) w))
+
+  -- the two compared as one number
+  pub framed-at-once : (k l z y : ℕ) → at ≤ length s → 2 + l ≤ length s - at → z ≡ field 2 s at → y ≡ number kind s at → z < 65536 → l < 65536
+      → eqb (z + 65536 * y) (l + 65536 * k) ≡ framed k l s at
+  framed-at-once k l z y i h a b u v = at-once z y l k u v ∙ framed-by k l z y i h a b
 
   pub phase-unframed : framed 16 103 s at ≡ false → false ≡ goodPhase s at
   unfolding goodPhase

@@ -15,6 +15,8 @@ use wire::get2;
 use wire::get4;
 use wire::signed8;
 
+const WORD: u32 = 0x1_0000;
+
 const LAST_PHASE: u8 = 7;
 
 const LAST_CODE: u8 = 3;
@@ -27,7 +29,7 @@ enum Judged {
     On(usize, u64),
 }
 
-// A record of a kind and a length stands whole at `at`.
+// A record of a kind and a length stands whole at `at`. The length and the kind behind it are compared as one number.
 fn framed(bytes: &[u8], at: usize, kind: u16, size: u16) -> bool
     requires { ⌜ (at ≤ length (now bytes)) × (2 ≤ size) ⌝ }
     ensures { λ r. ⌜ r ≡ Rows·framed kind size (now (bytes .entry)) at ⌝ }
@@ -35,7 +37,8 @@ fn framed(bytes: &[u8], at: usize, kind: u16, size: u16) -> bool
     if bytes.len() - at < 2 + size as usize {
         return false;
     }
-    (get2(bytes, at) == size) & (get2(bytes, at + KIND) == kind)
+    let head = get2(bytes, at) as u32 + WORD * (get2(bytes, at + KIND) as u32);
+    head == size as u32 + WORD * (kind as u32)
 }
 
 fn good_phase(bytes: &[u8], at: usize) -> bool
@@ -85,13 +88,13 @@ fn good_events(bytes: &[u8], at: usize, n: u32) -> bool
     ensures { λ r. ⌜ r ≡ goodEvents (now (bytes .entry)) at n ⌝ }
 {
     let mut place = at;
-    let mut left = n;
-    while 0 < left {
+    let mut done: u32 = 0;
+    while done < n {
         if !good_event(bytes, place) {
             return false;
         }
         place += EVENT_BYTES;
-        left -= 1;
+        done += 1;
     }
     true
 }

@@ -1,4 +1,5 @@
-use Rattle.rows.proofs.Judging.{framed-short, framed-by}
+use native.Mathlib.Omega.{arith}
+use Rattle.rows.proofs.Judging.{framed-short, framed-at-once}
 use borrow.Author.Needs.{needs}
 use Rattle.rows.proofs.judge.framed.Statement.{statement}
 use Rattle.rows.proofs.judge.framed.Tie as tie
@@ -14,7 +15,7 @@ returns-2 c =
     let at-get2 = c .before in
     let start = at-get2 .before .before .before in
     let args = start .args in
-    framed-by (args .bytes .now) (args .at) (args .kind) (args .size) _ _ (start .pre .0) (at-get2 .before .if1 .left) (at-get2 .get2 .ensures) (c .get22 .ensures)
+    framed-at-once (args .bytes .now) (args .at) (args .kind) (args .size) _ _ (start .pre .0) (at-get2 .before .if1 .left) (at-get2 .get2 .ensures) (c .get22 .ensures) (omega arith) (omega arith)
 
 pub framed-spec : {M : Type 1} → statement M
 framed-spec =
@@ -25,5 +26,11 @@ framed-spec =
     returns
     (λ c κs. search needs)
     (λ c. search needs)
+    (λ c. search needs)
     (λ c κs. search needs)
+    (λ c. search needs)
+    (λ c. search needs)
+    (λ c. search needs)
+    (λ c. search needs)
+    (λ c. search needs)
     returns-2)
