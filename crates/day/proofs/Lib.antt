@@ -1,5 +1,6 @@
 pub mod Choosing
 pub mod Governs
+pub mod Narrowing
 pub mod Cutting
 pub mod Points
 pub mod Theorems

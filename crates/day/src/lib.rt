@@ -3,12 +3,14 @@
 mod ask;
 mod cut;
 mod govern;
+mod narrow;
 
 pub use ask::day_span_after;
 pub use ask::point;
 pub use cut::midnight_after;
 pub use cut::span_after;
 pub use govern::governing;
+pub use narrow::near;
 use zone::Boundary;
 
 // The rule that governs a date, by where it stands in the book.

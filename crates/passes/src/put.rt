@@ -26,6 +26,7 @@ use venue::point_phase;
 use venue::rule_evidence;
 use venue::rule_uncertainty;
 use walk::MOST_BOUNDARIES;
+use walk::MOST_KEPT;
 use walk::MOST_TURNS;
 use walk::Piece;
 use walk::Pulled;
@@ -162,6 +163,7 @@ pub fn put_walk(
         (length (encodeAll (walkForms (now (book .entry)) first (now (ats .entry)) (now (offsets .entry)) (now (rules .entry)) (now (events .entry)) (lo .0) (hi .0))))
         (now (out .exit)) r ⌝ }
 {
+    let mut kept = [0u32; MOST_KEPT];
     let mut edges = [0u64; MOST_BOUNDARIES];
     let mut w = begin(
         book,
@@ -169,6 +171,7 @@ pub fn put_walk(
         ats,
         offsets,
         rules,
+        &mut kept,
         &mut edges,
         MOST_TURNS - 1,
         lo,
@@ -178,7 +181,17 @@ pub fn put_walk(
     let mut stand = at;
     let mut place = at;
     'pieces: loop {
-        match pull(book, first, ats, offsets, rules, &mut edges, hi, w) {
+        match pull(
+            book,
+            first,
+            ats,
+            offsets,
+            rules,
+            &mut kept,
+            &mut edges,
+            hi,
+            w,
+        ) {
             Pulled::Done => break 'pieces,
             Pulled::Next(q) => {
                 let from = q.from;

@@ -14,6 +14,7 @@ use events::count_events;
 use venue::point_phase;
 use venue::rule_evidence;
 use walk::MOST_BOUNDARIES;
+use walk::MOST_KEPT;
 use walk::MOST_TURNS;
 use walk::Pulled;
 use walk::begin;
@@ -42,6 +43,7 @@ pub fn walk_size(
     requires { ⌜ Ready (now book) first (now ats) (now offsets) (now rules) (now events) ⌝ }
     ensures { λ r. ⌜ (r ≡ length (encodeAll (walkForms (now (book .entry)) first (now (ats .entry)) (now (offsets .entry)) (now (rules .entry)) (now (events .entry)) (lo .0) (hi .0)))) × (r ≤ 4294967295) ⌝ }
 {
+    let mut kept = [0u32; MOST_KEPT];
     let mut edges = [0u64; MOST_BOUNDARIES];
     let mut w = begin(
         book,
@@ -49,6 +51,7 @@ pub fn walk_size(
         ats,
         offsets,
         rules,
+        &mut kept,
         &mut edges,
         MOST_TURNS - 1,
         lo,
@@ -56,7 +59,17 @@ pub fn walk_size(
     let mut last = Last::Nothing;
     let mut size: usize = 0;
     'pieces: loop {
-        match pull(book, first, ats, offsets, rules, &mut edges, hi, w) {
+        match pull(
+            book,
+            first,
+            ats,
+            offsets,
+            rules,
+            &mut kept,
+            &mut edges,
+            hi,
+            w,
+        ) {
             Pulled::Done => break 'pieces,
             Pulled::Next(q) => {
                 let from = q.from;

@@ -19,6 +19,7 @@ use spans::later;
 use venue::Header;
 use venue::point_phase;
 use walk::MOST_BOUNDARIES;
+use walk::MOST_KEPT;
 use walk::MOST_TURNS;
 use walk::Pulled;
 use walk::begin;
@@ -107,6 +108,7 @@ pub fn put_tallies(
         &mut row,
         &mut whole,
     );
+    let mut kept = [0u32; MOST_KEPT];
     let mut edges = [0u64; MOST_BOUNDARIES];
     let mut w = begin(
         book,
@@ -114,12 +116,23 @@ pub fn put_tallies(
         ats,
         offsets,
         rules,
+        &mut kept,
         &mut edges,
         MOST_TURNS - 1,
         lo,
     );
     'pieces: loop {
-        match pull(book, first, ats, offsets, rules, &mut edges, hi, w) {
+        match pull(
+            book,
+            first,
+            ats,
+            offsets,
+            rules,
+            &mut kept,
+            &mut edges,
+            hi,
+            w,
+        ) {
             Pulled::Done => break 'pieces,
             Pulled::Next(q) => {
                 let from = q.from;

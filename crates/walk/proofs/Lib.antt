@@ -1,7 +1,9 @@
 pub mod Edges
 pub mod Filling
+pub mod Keeping
 pub mod Laws
 pub mod Near
 pub mod Pieces
 pub mod Rest
+pub mod Shifting
 pub mod Showing

@@ -1,2 +1,4 @@
 pub mod Walking
+pub mod Keeping
+pub mod Shifting
 pub mod AsWritten

@@ -1,5 +1,7 @@
 // The walk over the covered part of a window, one span after the other.
 
+mod keep;
+mod steady;
 mod step;
 mod turn;
 
@@ -13,6 +15,9 @@ use zone::Instant;
 
 // One more boundary than a rule can have points.
 pub const MOST_BOUNDARIES: usize = 17;
+
+// Room for the places of all rules of a book, behind three numbers.
+pub const MOST_KEPT: usize = 259;
 
 // The most turns that a walk takes.
 pub const MOST_TURNS: u32 = 3_660;

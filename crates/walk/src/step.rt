@@ -12,7 +12,9 @@ ghost use Rattle.day.specs.Days.{venueBy};
 ghost use Rattle.day.specs.Meaning.{heldBy};
 ghost use Rattle.venue.specs.Reading.{AllListed};
 ghost use Rattle.walk.specs.Walking.{onward as Walking·onward, behind as Walking·behind, Stands, Fits, heldIn, Showing, Found};
+ghost use Rattle.walk.specs.Keeping.{Keeps};
 use crate::MOST_BOUNDARIES;
+use crate::MOST_KEPT;
 use crate::Piece;
 use crate::Pulled;
 use crate::Walk;
@@ -75,14 +77,16 @@ pub fn pull(
     ats: &[u64],
     offsets: &[u32],
     rules: &[u32],
+    kept: &mut [u32; MOST_KEPT],
     edges: &mut [u64; MOST_BOUNDARIES],
     hi: Instant,
     from: Walk,
 ) -> Pulled
-    requires { ⌜ Valid first (now ats) (now offsets) × AllListed 3 (now book) (now rules)
+    requires { ⌜ Valid first (now ats) (now offsets) × AllListed 3 (now book) (now rules) × Keeps (now book) (now rules) (now kept)
         × Stands (now book) (zoneOf first (now ats) (now offsets)) from (now edges) ⌝ }
     ensures { λ r. ⌜ Found (now (book .entry)) (zoneOf first (now (ats .entry)) (now (offsets .entry)))
-        (venueBy (zoneOf first (now (ats .entry)) (now (offsets .entry))) (Governing·governing (map (ruleAt (now (book .entry))) (now (rules .entry))))) (hi .0) from r (now (edges .exit)) ⌝ }
+        (venueBy (zoneOf first (now (ats .entry)) (now (offsets .entry))) (Governing·governing (map (ruleAt (now (book .entry))) (now (rules .entry))))) (hi .0) from r (now (edges .exit))
+        × Keeps (now (book .entry)) (now (rules .entry)) (now (kept .exit)) ⌝ }
 {
     let mut turns = from.turns;
     let mut began = from.began;
@@ -119,7 +123,17 @@ pub fn pull(
         if (next.0 <= began.0) | (turns == 0) {
             break 'turns;
         }
-        let turn = begin(book, first, ats, offsets, rules, edges, turns - 1, next);
+        let turn = begin(
+            book,
+            first,
+            ats,
+            offsets,
+            rules,
+            kept,
+            edges,
+            turns - 1,
+            next,
+        );
         turns = turn.turns;
         began = turn.began;
         cursor = turn.cursor;

@@ -5,26 +5,35 @@ ghost use mathlib.Core.List.{map};
 ghost use Prim.Native.Nat.{_<_};
 ghost use lib.ListN.{length};
 ghost use Rattle.wire.specs.Fields.{wrote};
-ghost use Rattle.zone.specs.Zone.{zoneOf};
+ghost use Rattle.zone.specs.Zone.{zoneOf, dateAt};
 ghost use Rattle.zone.specs.Answers.{Valid};
+ghost use Rattle.zone.specs.Steady.{steadyOf};
 ghost use Rattle.records.specs.Limits.{base};
 ghost use Rattle.records.specs.Records.{ruleAt};
 ghost use Rattle.venue.specs.Reading.{Listed, AllListed};
 ghost use Rattle.day.specs.Governing.{governing as Governing·governing};
 ghost use Rattle.day.specs.Days.{venueBy};
 ghost use Rattle.walk.specs.Walking.{edgeInstants, isExact, Calm, Begun};
+ghost use Rattle.walk.specs.Keeping.{Keeps};
+ghost use Rattle.walk.specs.Shifting.{SteadyOn};
 use crate::MOST_BOUNDARIES;
+use crate::MOST_KEPT;
 use crate::Walk;
+use crate::keep::governing_near;
+use crate::steady::steady_boundaries;
 use calendar::Day;
 use day::Governed;
-use day::governing;
 use day::midnight_after;
 use spans::later;
 use venue::point_time;
 use venue::rule_points;
 use zone::Instant;
+use zone::Steady;
 use zone::Uncertainty;
 use zone::day_at;
+use zone::steady_day;
+use zone::steady_midnight;
+use zone::steady_offset;
 use zone::to_utc_at;
 
 fn is_exact(u: Uncertainty) -> bool
@@ -82,6 +91,41 @@ fn boundaries(
     calm & is_exact(uncertainty)
 }
 
+// As `boundaries`. Where the clock is steady they are shifts of the date's midnight, and none is in doubt.
+fn date_boundaries(
+    book: &[u8],
+    first: u32,
+    ats: &[u64],
+    offsets: &[u32],
+    steady: Steady,
+    rule: u32,
+    d: Day,
+    edges: &mut [u64],
+) -> bool
+    requires { ⌜ Valid first (now ats) (now offsets) × Listed 3 (now book) rule × (base .points < length (now edges)) × SteadyOn (zoneOf first (now ats) (now offsets)) steady (d .0) ⌝ }
+    ensures { λ r. ⌜ (now (edges .exit) ≡ wrote (now (edges .entry)) 0 (edgeInstants (zoneOf first (now (ats .entry)) (now (offsets .entry))) (ruleAt (now (book .entry)) rule) (d .0)))
+        × (r ≡ true → Calm (zoneOf first (now (ats .entry)) (now (offsets .entry))) (ruleAt (now (book .entry)) rule) (d .0)) ⌝ }
+{
+    match steady {
+        Steady::No => boundaries(book, first, ats, offsets, rule, d, edges),
+        Steady::By(offset) => {
+            steady_boundaries(book, rule, steady_midnight(offset, d), edges);
+            true
+        }
+    }
+}
+
+// The date that the cursor reads.
+fn date_of(first: u32, ats: &[u64], offsets: &[u32], steady: Steady, cursor: Instant) -> Day
+    requires { ⌜ Valid first (now ats) (now offsets) × (steady ≡ steadyOf (zoneOf first (now ats) (now offsets)) (cursor .0) (cursor .0)) ⌝ }
+    ensures { λ r. ⌜ r .0 ≡ dateAt (zoneOf first (now (ats .entry)) (now (offsets .entry))) (cursor .0) ⌝ }
+{
+    match steady {
+        Steady::No => day_at(first, ats, offsets, cursor),
+        Steady::By(offset) => steady_day(offset, cursor),
+    }
+}
+
 // A turn begins at the cursor, with so many turns left after it.
 pub fn begin(
     book: &[u8],
@@ -89,19 +133,24 @@ pub fn begin(
     ats: &[u64],
     offsets: &[u32],
     rules: &[u32],
+    kept: &mut [u32; MOST_KEPT],
     edges: &mut [u64; MOST_BOUNDARIES],
     turns: u32,
     cursor: Instant,
 ) -> Walk
-    requires { ⌜ Valid first (now ats) (now offsets) × AllListed 3 (now book) (now rules) ⌝ }
+    requires { ⌜ Valid first (now ats) (now offsets) × AllListed 3 (now book) (now rules) × Keeps (now book) (now rules) (now kept) ⌝ }
     ensures { λ r. ⌜ Begun (now (book .entry)) (zoneOf first (now (ats .entry)) (now (offsets .entry)))
-        (venueBy (zoneOf first (now (ats .entry)) (now (offsets .entry))) (Governing·governing (map (ruleAt (now (book .entry))) (now (rules .entry))))) turns (cursor .0) r (now (edges .exit)) ⌝ }
+        (venueBy (zoneOf first (now (ats .entry)) (now (offsets .entry))) (Governing·governing (map (ruleAt (now (book .entry))) (now (rules .entry))))) turns (cursor .0) r (now (edges .exit))
+        × Keeps (now (book .entry)) (now (rules .entry)) (now (kept .exit)) ⌝ }
 {
-    let date = day_at(first, ats, offsets, cursor);
-    let governed = governing(book, rules, date);
+    let steady = steady_offset(first, ats, offsets, cursor, cursor);
+    let date = date_of(first, ats, offsets, steady, cursor);
+    let governed = governing_near(book, rules, date, kept);
     let calm = match governed {
         Governed::Nothing => true,
-        Governed::By(rule) => boundaries(book, first, ats, offsets, rule, date, edges),
+        Governed::By(rule) => {
+            date_boundaries(book, first, ats, offsets, steady, rule, date, edges)
+        }
     };
     Walk {
         turns,

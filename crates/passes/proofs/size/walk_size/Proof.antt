@@ -7,6 +7,8 @@ use Rattle.answer.specs.Forms.{encodeAll}
 use Rattle.spans.specs.Spans.{Span, joined}
 use Rattle.venue.proofs.Laws.{good-rule}
 use Rattle.walk.specs.Walking.{Stands}
+use Rattle.walk.specs.Keeping.{Keeps}
+use Rattle.walk.proofs.Keeping.{keeps-blank}
 use Rattle.tell.specs.Shown.{Shown}
 use Rattle.passes.specs.Joining.{phases}
 use Rattle.passes.specs.Walked.{phaseForms}
@@ -16,32 +18,33 @@ use Rattle.passes.proofs.size.walk_size.Statement.{statement}
 use Rattle.passes.proofs.size.walk_size.Tie as tie
 
 abbrev Inv-pieces : tie.InvT-pieces
-Inv-pieces book first ats offsets rules events hi edges₀ w₀ last₀ size₀ edges w last size =
+Inv-pieces book first ats offsets rules events hi kept₀ edges₀ w₀ last₀ size₀ kept edges w last size =
     Stands book (z book first ats offsets rules events (hi .0)) w edges
     × Sizing (length (bytesOf (joined phases (left book first ats offsets rules events (hi .0) w₀)))) last size (left book first ats offsets rules events (hi .0) w)
+    × Keeps book rules kept
 
 abbrev μ-pieces : tie.MeasureT-pieces
-μ-pieces book first ats offsets rules events hi edges₀ w₀ last₀ size₀ edges w last size = length (left book first ats offsets rules events (hi .0) w)
+μ-pieces book first ats offsets rules events hi kept₀ edges₀ w₀ last₀ size₀ kept edges w last size = length (left book first ats offsets rules events (hi .0) w)
 
 sub-begin : tie.Need-sub-begin Inv-pieces μ-pieces
 sub-begin c = omega arith
 
 begin-requires : tie.Need-begin-requires Inv-pieces μ-pieces
 begin-requires c κs =
-    let at-start = c .before .before .before .before .before .before in
-    ((at-start .pre) .zone, (at-start .pre) .rules-listed)
+    let at-start = c .before .before .before .before .before .before .before in
+    ((at-start .pre) .zone, (at-start .pre) .rules-listed, keeps-blank _)
 
 pieces-holds : tie.Need-pieces-holds Inv-pieces μ-pieces
 pieces-holds c =
     let at-begin = c in
-    let at-start = at-begin .before .before .before .before .before .before .before in
-    ((at-begin .begin .ensures) .stands, size-start (left ((at-start .args .book) .now) (at-start .args .first) ((at-start .args .ats) .now) ((at-start .args .offsets) .now) ((at-start .args .rules) .now) ((at-start .args .events) .now) ((at-start .args .hi) .0) _) (begun-few ((at-start .args .book) .now) (at-start .args .first) ((at-start .args .ats) .now) ((at-start .args .offsets) .now) ((at-start .args .rules) .now) ((at-start .args .events) .now) ((at-start .args .hi) .0) (at-start .pre) (at-begin .begin .ensures)))
+    let at-start = at-begin .before .before .before .before .before .before .before .before in
+    ((at-begin .begin .ensures .0) .stands, size-start (left ((at-start .args .book) .now) (at-start .args .first) ((at-start .args .ats) .now) ((at-start .args .offsets) .now) ((at-start .args .rules) .now) ((at-start .args .events) .now) ((at-start .args .hi) .0) _) (begun-few ((at-start .args .book) .now) (at-start .args .first) ((at-start .args .ats) .now) ((at-start .args .offsets) .now) ((at-start .args .rules) .now) ((at-start .args .events) .now) ((at-start .args .hi) .0) (at-start .pre) (at-begin .begin .ensures .0)), at-begin .begin .ensures .1)
 
 pull-requires : tie.Need-pull-requires Inv-pieces μ-pieces
 pull-requires c κs =
-    let at-pieces = c .before in
-    let at-start = at-pieces .before .before .before .before .before .before .before .before in
-    ((at-start .pre) .zone, (at-start .pre) .rules-listed, (at-pieces .pieces .inv) .0)
+    let at-pieces = c .before .before in
+    let at-start = at-pieces .before .before .before .before .before .before .before .before .before in
+    ((at-start .pre) .zone, (at-start .pre) .rules-listed, (at-pieces .pieces .inv) .2, (at-pieces .pieces .inv) .0)
 
 enum-told : tie.Need-enum-told Inv-pieces μ-pieces
 enum-told c = search needs
@@ -56,15 +59,15 @@ point-phase-requires : tie.Need-point-phase-requires Inv-pieces μ-pieces
 point-phase-requires c κs =
     let at-q = c .before .before .before .before .before .before in
     let at-pull = at-q .before .before in
-    let at-start = at-pull .before .before .before .before .before .before .before .before .before .before in
-    ((come ((at-start .args .book) .now) (at-start .args .first) ((at-start .args .ats) .now) ((at-start .args .offsets) .now) ((at-start .args .rules) .now) ((at-start .args .events) .now) ((at-start .args .hi) .0) _ _ _ (at-pull .pull .ensures) ((at-q .q .given) .1)) .fits .listed, (come ((at-start .args .book) .now) (at-start .args .first) ((at-start .args .ats) .now) ((at-start .args .offsets) .now) ((at-start .args .rules) .now) ((at-start .args .events) .now) ((at-start .args .hi) .0) _ _ _ (at-pull .pull .ensures) ((at-q .q .given) .1)) .fits .point)
+    let at-start = at-pull .before .before .before .before .before .before .before .before .before .before .before .before in
+    ((come ((at-start .args .book) .now) (at-start .args .first) ((at-start .args .ats) .now) ((at-start .args .offsets) .now) ((at-start .args .rules) .now) ((at-start .args .events) .now) ((at-start .args .hi) .0) _ _ _ (at-pull .pull .ensures .0) ((at-q .q .given) .1)) .fits .listed, (come ((at-start .args .book) .now) (at-start .args .first) ((at-start .args .ats) .now) ((at-start .args .offsets) .now) ((at-start .args .rules) .now) ((at-start .args .events) .now) ((at-start .args .hi) .0) _ _ _ (at-pull .pull .ensures .0) ((at-q .q .given) .1)) .fits .point)
 
 rule-evidence-requires : tie.Need-rule-evidence-requires Inv-pieces μ-pieces
 rule-evidence-requires c κs =
     let at-q = c .before .before .before .before .before .before .before in
     let at-pull = at-q .before .before in
-    let at-start = at-pull .before .before .before .before .before .before .before .before .before .before in
-    (come ((at-start .args .book) .now) (at-start .args .first) ((at-start .args .ats) .now) ((at-start .args .offsets) .now) ((at-start .args .rules) .now) ((at-start .args .events) .now) ((at-start .args .hi) .0) _ _ _ (at-pull .pull .ensures) ((at-q .q .given) .1)) .fits .listed
+    let at-start = at-pull .before .before .before .before .before .before .before .before .before .before .before .before in
+    (come ((at-start .args .book) .now) (at-start .args .first) ((at-start .args .ats) .now) ((at-start .args .offsets) .now) ((at-start .args .rules) .now) ((at-start .args .events) .now) ((at-start .args .hi) .0) _ _ _ (at-pull .pull .ensures .0) ((at-q .q .given) .1)) .fits .listed
 
 joins-requires : tie.Need-joins-requires Inv-pieces μ-pieces
 joins-requires c κs = search needs
@@ -74,13 +77,13 @@ record-size-requires c κs = search needs
 
 count-events-requires : tie.Need-count-events-requires Inv-pieces μ-pieces
 count-events-requires c κs =
-    let at-start = c .before .before .before .before .before .before .before .before .before .before .before .before .before .before .before .before .before .before .before .before .before .before in
+    let at-start = c .before .before .before .before .before .before .before .before .before .before .before .before .before .before .before .before .before .before .before .before .before .before .before .before in
     ((at-start .pre) .zone, (at-start .pre) .events-listed, (at-start .pre) .few)
 
 add-size : tie.Need-add-size Inv-pieces μ-pieces
 add-size c =
     let at-record-size = c .before in
-    let at-pieces = at-record-size .before .before .before .before .before .before .before .before .before .before .before .before .before .before in
+    let at-pieces = at-record-size .before .before .before .before .before .before .before .before .before .before .before .before .before .before .before in
     omega (arith, (at-pieces .pieces .inv) .1 .few, (at-record-size .record-size .ensures) .1)
 
 mul-size : tie.Need-mul-size Inv-pieces μ-pieces
@@ -92,15 +95,15 @@ add-size-2 : tie.Need-add-size-2 Inv-pieces μ-pieces
 add-size-2 c =
     let at-count-events = c in
     let at-record-size = at-count-events .before in
-    let at-pieces = at-record-size .before .before .before .before .before .before .before .before .before .before .before .before .before .before in
+    let at-pieces = at-record-size .before .before .before .before .before .before .before .before .before .before .before .before .before .before .before in
     omega (arith, (at-count-events .count-events .ensures) .1, (at-pieces .pieces .inv) .1 .few, (at-record-size .record-size .ensures) .1)
 
 behind-requires : tie.Need-behind-requires Inv-pieces μ-pieces
 behind-requires c κs =
     let at-q = c .before .before .before .before .before .before .before .before .before .before .before in
     let at-pull = at-q .before .before in
-    let at-start = at-pull .before .before .before .before .before .before .before .before .before .before in
-    omega (arith, (come ((at-start .args .book) .now) (at-start .args .first) ((at-start .args .ats) .now) ((at-start .args .offsets) .now) ((at-start .args .rules) .now) ((at-start .args .events) .now) ((at-start .args .hi) .0) _ _ _ (at-pull .pull .ensures) ((at-q .q .given) .1)) .fits .point, good-rule ((at-start .args .book) .now) _ ((come ((at-start .args .book) .now) (at-start .args .first) ((at-start .args .ats) .now) ((at-start .args .offsets) .now) ((at-start .args .rules) .now) ((at-start .args .events) .now) ((at-start .args .hi) .0) _ _ _ (at-pull .pull .ensures) ((at-q .q .given) .1)) .fits .listed) .few)
+    let at-start = at-pull .before .before .before .before .before .before .before .before .before .before .before .before in
+    omega (arith, (come ((at-start .args .book) .now) (at-start .args .first) ((at-start .args .ats) .now) ((at-start .args .offsets) .now) ((at-start .args .rules) .now) ((at-start .args .events) .now) ((at-start .args .hi) .0) _ _ _ (at-pull .pull .ensures .0) ((at-q .q .given) .1)) .fits .point, good-rule ((at-start .args .book) .now) _ ((come ((at-start .args .book) .now) (at-start .args .first) ((at-start .args .ats) .now) ((at-start .args .offsets) .now) ((at-start .args .rules) .now) ((at-start .args .events) .now) ((at-start .args .hi) .0) _ _ _ (at-pull .pull .ensures .0) ((at-q .q .given) .1)) .fits .listed) .few)
 
 pieces-less : tie.Need-pieces-less Inv-pieces μ-pieces
 pieces-less c =
@@ -109,8 +112,8 @@ pieces-less c =
     let at-point-phase = at-rule-evidence .before in
     let at-q = at-point-phase .before .before .before .before .before .before .before in
     let at-pull = at-q .before .before in
-    let at-start = at-pull .before .before .before .before .before .before .before .before .before .before in
-    fewer-on ((at-start .args .book) .now) (at-start .args .first) ((at-start .args .ats) .now) ((at-start .args .offsets) .now) ((at-start .args .rules) .now) ((at-start .args .events) .now) ((at-start .args .hi) .0) (at-behind .behind .ensures) (fewer ((at-start .args .book) .now) (at-start .args .first) ((at-start .args .ats) .now) ((at-start .args .offsets) .now) ((at-start .args .rules) .now) ((at-start .args .events) .now) ((at-start .args .hi) .0) (at-start .pre) (come ((at-start .args .book) .now) (at-start .args .first) ((at-start .args .ats) .now) ((at-start .args .offsets) .now) ((at-start .args .rules) .now) ((at-start .args .events) .now) ((at-start .args .hi) .0) _ _ _ (at-pull .pull .ensures) ((at-q .q .given) .1)) ((at-point-phase .point-phase .ensures) .0) (at-rule-evidence .rule-evidence .ensures))
+    let at-start = at-pull .before .before .before .before .before .before .before .before .before .before .before .before in
+    fewer-on ((at-start .args .book) .now) (at-start .args .first) ((at-start .args .ats) .now) ((at-start .args .offsets) .now) ((at-start .args .rules) .now) ((at-start .args .events) .now) ((at-start .args .hi) .0) (at-behind .behind .ensures) (fewer ((at-start .args .book) .now) (at-start .args .first) ((at-start .args .ats) .now) ((at-start .args .offsets) .now) ((at-start .args .rules) .now) ((at-start .args .events) .now) ((at-start .args .hi) .0) (at-start .pre) (come ((at-start .args .book) .now) (at-start .args .first) ((at-start .args .ats) .now) ((at-start .args .offsets) .now) ((at-start .args .rules) .now) ((at-start .args .events) .now) ((at-start .args .hi) .0) _ _ _ (at-pull .pull .ensures .0) ((at-q .q .given) .1)) ((at-point-phase .point-phase .ensures) .0) (at-rule-evidence .rule-evidence .ensures))
 
 pieces-again : tie.Need-pieces-again Inv-pieces μ-pieces
 pieces-again c =
@@ -122,18 +125,18 @@ pieces-again c =
     let at-point-phase = at-rule-evidence .before in
     let at-q = at-point-phase .before .before .before .before .before .before .before in
     let at-pull = at-q .before .before in
-    let at-pieces = at-pull .before .before in
-    let at-start = at-pieces .before .before .before .before .before .before .before .before in
-    (stands-on ((at-start .args .book) .now) (at-start .args .first) ((at-start .args .ats) .now) ((at-start .args .offsets) .now) ((at-start .args .rules) .now) ((at-start .args .events) .now) ((at-start .args .hi) .0) (at-behind .behind .ensures) ((come ((at-start .args .book) .now) (at-start .args .first) ((at-start .args .ats) .now) ((at-start .args .offsets) .now) ((at-start .args .rules) .now) ((at-start .args .events) .now) ((at-start .args .hi) .0) _ _ _ (at-pull .pull .ensures) ((at-q .q .given) .1)) .stands), sized-on ((at-start .args .book) .now) (at-start .args .first) ((at-start .args .ats) .now) ((at-start .args .offsets) .now) ((at-start .args .rules) .now) ((at-start .args .events) .now) ((at-start .args .hi) .0) (at-behind .behind .ensures) (sized ((at-start .args .book) .now) (at-start .args .first) ((at-start .args .ats) .now) ((at-start .args .offsets) .now) ((at-start .args .rules) .now) ((at-start .args .events) .now) ((at-start .args .hi) .0) (at-start .pre) (come ((at-start .args .book) .now) (at-start .args .first) ((at-start .args .ats) .now) ((at-start .args .offsets) .now) ((at-start .args .rules) .now) ((at-start .args .events) .now) ((at-start .args .hi) .0) _ _ _ (at-pull .pull .ensures) ((at-q .q .given) .1)) ((at-point-phase .point-phase .ensures) .0) (at-rule-evidence .rule-evidence .ensures) ((at-pieces .pieces .inv) .1) (at-joins .joins .ensures) ((at-record-size .record-size .ensures) .0) ((at-count-events .count-events .ensures) .0) refl))
+    let at-pieces = at-pull .before .before .before in
+    let at-start = at-pieces .before .before .before .before .before .before .before .before .before in
+    (stands-on ((at-start .args .book) .now) (at-start .args .first) ((at-start .args .ats) .now) ((at-start .args .offsets) .now) ((at-start .args .rules) .now) ((at-start .args .events) .now) ((at-start .args .hi) .0) (at-behind .behind .ensures) ((come ((at-start .args .book) .now) (at-start .args .first) ((at-start .args .ats) .now) ((at-start .args .offsets) .now) ((at-start .args .rules) .now) ((at-start .args .events) .now) ((at-start .args .hi) .0) _ _ _ (at-pull .pull .ensures .0) ((at-q .q .given) .1)) .stands), sized-on ((at-start .args .book) .now) (at-start .args .first) ((at-start .args .ats) .now) ((at-start .args .offsets) .now) ((at-start .args .rules) .now) ((at-start .args .events) .now) ((at-start .args .hi) .0) (at-behind .behind .ensures) (sized ((at-start .args .book) .now) (at-start .args .first) ((at-start .args .ats) .now) ((at-start .args .offsets) .now) ((at-start .args .rules) .now) ((at-start .args .events) .now) ((at-start .args .hi) .0) (at-start .pre) (come ((at-start .args .book) .now) (at-start .args .first) ((at-start .args .ats) .now) ((at-start .args .offsets) .now) ((at-start .args .rules) .now) ((at-start .args .events) .now) ((at-start .args .hi) .0) _ _ _ (at-pull .pull .ensures .0) ((at-q .q .given) .1)) ((at-point-phase .point-phase .ensures) .0) (at-rule-evidence .rule-evidence .ensures) ((at-pieces .pieces .inv) .1) (at-joins .joins .ensures) ((at-record-size .record-size .ensures) .0) ((at-count-events .count-events .ensures) .0) refl), at-pull .pull .ensures .1)
 
 returns : tie.Need-returns Inv-pieces μ-pieces
 returns c =
     let at-enum-told = c in
     let at-pull = at-enum-told .before .before in
-    let at-pieces = at-pull .before .before in
+    let at-pieces = at-pull .before .before .before in
     let at-begin = at-pieces .before in
-    let at-start = at-begin .before .before .before .before .before .before .before in
-    let e = size-end ((at-pieces .pieces .inv) .1) (gone ((at-start .args .book) .now) (at-start .args .first) ((at-start .args .ats) .now) ((at-start .args .offsets) .now) ((at-start .args .rules) .now) ((at-start .args .events) .now) ((at-start .args .hi) .0) _ _ _ (at-pull .pull .ensures) ((at-enum-told .enum-told .given) .1)) in (e .0 ∙ ap (λ (l : List (Span Shown)). length (encodeAll (phaseForms l))) (sym (begun-spans ((at-start .args .book) .now) (at-start .args .first) ((at-start .args .ats) .now) ((at-start .args .offsets) .now) ((at-start .args .rules) .now) ((at-start .args .events) .now) ((at-start .args .hi) .0) (at-start .pre) (at-begin .begin .ensures))), e .1)
+    let at-start = at-begin .before .before .before .before .before .before .before .before in
+    let e = size-end ((at-pieces .pieces .inv) .1) (gone ((at-start .args .book) .now) (at-start .args .first) ((at-start .args .ats) .now) ((at-start .args .offsets) .now) ((at-start .args .rules) .now) ((at-start .args .events) .now) ((at-start .args .hi) .0) _ _ _ (at-pull .pull .ensures .0) ((at-enum-told .enum-told .given) .1)) in (e .0 ∙ ap (λ (l : List (Span Shown)). length (encodeAll (phaseForms l))) (sym (begun-spans ((at-start .args .book) .now) (at-start .args .first) ((at-start .args .ats) .now) ((at-start .args .offsets) .now) ((at-start .args .rules) .now) ((at-start .args .events) .now) ((at-start .args .hi) .0) (at-start .pre) (at-begin .begin .ensures .0))), e .1)
 
 pub walk-size-spec : {M : Type 1} → statement M
 walk-size-spec =

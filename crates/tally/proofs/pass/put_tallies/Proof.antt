@@ -8,6 +8,8 @@ use Rattle.venue.proofs.Laws.{good-rule}
 use Rattle.zone.specs.Zone.{zoneOf}
 use Rattle.spans.specs.Spans.{unknown}
 use Rattle.walk.specs.Walking.{Stands}
+use Rattle.walk.specs.Keeping.{Keeps}
+use Rattle.walk.proofs.Keeping.{keeps-blank}
 use Rattle.day.specs.Meaning.{valuesAt}
 use Rattle.tally.specs.Private.{rawOf, stretchOf}
 use Rattle.tally.proofs.Passing.{pieces, stands-on, come, gone, Walked, walked-none, walked-coming, walked-next, walked-less, done-coming, done-ending, done-put, venue-coming, venue-standing}
@@ -15,11 +17,12 @@ use Rattle.tally.proofs.pass.put_tallies.Statement.{statement}
 use Rattle.tally.proofs.pass.put_tallies.Tie as tie
 
 abbrev Inv-pieces : tie.InvT-pieces
-Inv-pieces book ats offsets rules events start end out₀ first hi after row₀ whole₀ place₀ edges₀ w₀ out row whole place edges w =
+Inv-pieces book ats offsets rules events start end out₀ first hi after row₀ whole₀ place₀ kept₀ edges₀ w₀ out row whole place kept edges w =
     Stands book (zoneOf first ats offsets) w edges × Walked book first ats offsets rules (hi .0) (start .0) (end .0) w₀ out₀ place₀ row₀ whole₀ w out place row whole
+    × Keeps book rules kept
 
 abbrev μ-pieces : tie.MeasureT-pieces
-μ-pieces book ats offsets rules events start end out₀ first hi after row₀ whole₀ place₀ edges₀ w₀ out row whole place edges w =
+μ-pieces book ats offsets rules events start end out₀ first hi after row₀ whole₀ place₀ kept₀ edges₀ w₀ out row whole place kept edges w =
     length (pieces book first ats offsets rules (hi .0) w)
 
 earlier-requires : tie.Need-earlier-requires Inv-pieces μ-pieces
@@ -51,21 +54,21 @@ sub-begin c = omega arith
 
 begin-requires : tie.Need-begin-requires Inv-pieces μ-pieces
 begin-requires c κs =
-    let at-start = c .before .before .before .before .before .before .before .before .before .before .before .before .before .before .before .before .before .before .before .before .before .before in
-    ((at-start .pre) .0 .zone, (at-start .pre) .0 .rules-listed)
+    let at-start = c .before .before .before .before .before .before .before .before .before .before .before .before .before .before .before .before .before .before .before .before .before .before .before in
+    ((at-start .pre) .0 .zone, (at-start .pre) .0 .rules-listed, keeps-blank _)
 
 pieces-holds : tie.Need-pieces-holds Inv-pieces μ-pieces
 pieces-holds c =
     let at-begin = c in
-    let at-earlier2 = at-begin .before .before .before .before .before .before .before .before .before .before .before .before in
+    let at-earlier2 = at-begin .before .before .before .before .before .before .before .before .before .before .before .before .before in
     let at-start = at-earlier2 .before .before .before .before .before .before .before .before .before .before .before in
-    ((at-begin .begin .ensures) .stands, walked-none (((at-start .args .book) .now)) (((at-start .args .h) .first)) (((at-start .args .ats) .now)) (((at-start .args .offsets) .now)) (((at-start .args .rules) .now)) (((at-earlier2 .earlier2 .result))) _ _ _ _ _ _ _)
+    ((at-begin .begin .ensures .0) .stands, walked-none (((at-start .args .book) .now)) (((at-start .args .h) .first)) (((at-start .args .ats) .now)) (((at-start .args .offsets) .now)) (((at-start .args .rules) .now)) (((at-earlier2 .earlier2 .result))) _ _ _ _ _ _ _, at-begin .begin .ensures .1)
 
 pull-requires : tie.Need-pull-requires Inv-pieces μ-pieces
 pull-requires c κs =
-    let at-pieces = c .before in
-    let at-start = at-pieces .before .before .before .before .before .before .before .before .before .before .before .before .before .before .before .before .before .before .before .before .before .before .before .before in
-    ((at-start .pre) .0 .zone, (at-start .pre) .0 .rules-listed, (at-pieces .pieces .inv) .0)
+    let at-pieces = c .before .before in
+    let at-start = at-pieces .before .before .before .before .before .before .before .before .before .before .before .before .before .before .before .before .before .before .before .before .before .before .before .before .before in
+    ((at-start .pre) .0 .zone, (at-start .pre) .0 .rules-listed, (at-pieces .pieces .inv) .2, (at-pieces .pieces .inv) .0)
 
 enum-told : tie.Need-enum-told Inv-pieces μ-pieces
 enum-told c = search needs
@@ -80,9 +83,9 @@ point-phase-requires : tie.Need-point-phase-requires Inv-pieces μ-pieces
 point-phase-requires c κs =
     let at-q = c .before .before .before .before in
     let at-pull = at-q .before .before in
-    let at-earlier2 = at-pull .before .before .before .before .before .before .before .before .before .before .before .before .before .before .before in
+    let at-earlier2 = at-pull .before .before .before .before .before .before .before .before .before .before .before .before .before .before .before .before .before in
     let at-start = at-earlier2 .before .before .before .before .before .before .before .before .before .before .before in
-    ((come (((at-start .args .book) .now)) (((at-start .args .h) .first)) (((at-start .args .ats) .now)) (((at-start .args .offsets) .now)) (((at-start .args .rules) .now)) (((at-earlier2 .earlier2 .result))) _ _ _ ((at-pull .pull .ensures)) ((at-q .q .given) .1)) .fits .listed, (come (((at-start .args .book) .now)) (((at-start .args .h) .first)) (((at-start .args .ats) .now)) (((at-start .args .offsets) .now)) (((at-start .args .rules) .now)) (((at-earlier2 .earlier2 .result))) _ _ _ ((at-pull .pull .ensures)) ((at-q .q .given) .1)) .fits .point)
+    ((come (((at-start .args .book) .now)) (((at-start .args .h) .first)) (((at-start .args .ats) .now)) (((at-start .args .offsets) .now)) (((at-start .args .rules) .now)) (((at-earlier2 .earlier2 .result))) _ _ _ ((at-pull .pull .ensures .0)) ((at-q .q .given) .1)) .fits .listed, (come (((at-start .args .book) .now)) (((at-start .args .h) .first)) (((at-start .args .ats) .now)) (((at-start .args .offsets) .now)) (((at-start .args .rules) .now)) (((at-earlier2 .earlier2 .result))) _ _ _ ((at-pull .pull .ensures .0)) ((at-q .q .given) .1)) .fits .point)
 
 cast-stretch : tie.Need-cast-stretch Inv-pieces μ-pieces
 cast-stretch c = search needs
@@ -92,24 +95,24 @@ stretch-requires-2 c κs =
     let at-point-phase = c .before .before .before in
     let at-q = at-point-phase .before .before .before .before .before in
     let at-pull = at-q .before .before in
-    let at-pieces = at-pull .before .before in
+    let at-pieces = at-pull .before .before .before in
     let at-begin = at-pieces .before in
-    let at-stretch = at-begin .before .before .before .before in
+    let at-stretch = at-begin .before .before .before .before .before in
     let at-first-page = at-stretch .before .before .before .before in
     let at-later2 = at-first-page .before .before .before in
     let at-earlier2 = at-later2 .before in
     let at-later = at-earlier2 .before in
     let at-earlier = at-later .before in
     let at-start = at-earlier .before .before .before .before .before .before .before .before .before in
-    walked-coming (((at-start .args .book) .now)) (((at-start .args .h) .first)) (((at-start .args .ats) .now)) (((at-start .args .offsets) .now)) (((at-start .args .rules) .now)) (((at-earlier2 .earlier2 .result))) ((at-pieces .pieces .inv) .1) ((come (((at-start .args .book) .now)) (((at-start .args .h) .first)) (((at-start .args .ats) .now)) (((at-start .args .offsets) .now)) (((at-start .args .rules) .now)) (((at-earlier2 .earlier2 .result))) _ _ _ ((at-pull .pull .ensures)) ((at-q .q .given) .1))) ((at-point-phase .point-phase .ensures)) (rawOf (valuesAt ((at-start .args .book) .now) (at-start .args .h) ((at-start .args .ats) .now) ((at-start .args .offsets) .now) ((at-start .args .rules) .now) ((at-start .args .events) .now)) ((at-start .args .start) .0) ((at-start .args .end) .0)) (stretchOf (at-later2 .later2 .result) ((at-start .args .end) .0) unknown ∷ []) ((at-start .args .out) .now) ((venue-standing (((at-start .args .book) .now)) ((at-start .args .h)) (((at-start .args .ats) .now)) (((at-start .args .offsets) .now)) (((at-start .args .rules) .now)) ((at-start .args .events) .now) ((at-start .args .out) .now) ((at-start .pre) .1) ((at-start .pre) .2) ((at-start .pre) .3) ((at-first-page .first-page .ensures)) ((at-earlier .earlier .ensures)) ((at-stretch .stretch .ensures)) ((at-later .later .ensures)) ((at-earlier2 .earlier2 .ensures)) ((at-later2 .later2 .ensures)) ((at-begin .begin .ensures))))
+    walked-coming (((at-start .args .book) .now)) (((at-start .args .h) .first)) (((at-start .args .ats) .now)) (((at-start .args .offsets) .now)) (((at-start .args .rules) .now)) (((at-earlier2 .earlier2 .result))) ((at-pieces .pieces .inv) .1) ((come (((at-start .args .book) .now)) (((at-start .args .h) .first)) (((at-start .args .ats) .now)) (((at-start .args .offsets) .now)) (((at-start .args .rules) .now)) (((at-earlier2 .earlier2 .result))) _ _ _ ((at-pull .pull .ensures .0)) ((at-q .q .given) .1))) ((at-point-phase .point-phase .ensures)) (rawOf (valuesAt ((at-start .args .book) .now) (at-start .args .h) ((at-start .args .ats) .now) ((at-start .args .offsets) .now) ((at-start .args .rules) .now) ((at-start .args .events) .now)) ((at-start .args .start) .0) ((at-start .args .end) .0)) (stretchOf (at-later2 .later2 .result) ((at-start .args .end) .0) unknown ∷ []) ((at-start .args .out) .now) ((venue-standing (((at-start .args .book) .now)) ((at-start .args .h)) (((at-start .args .ats) .now)) (((at-start .args .offsets) .now)) (((at-start .args .rules) .now)) ((at-start .args .events) .now) ((at-start .args .out) .now) ((at-start .pre) .1) ((at-start .pre) .2) ((at-start .pre) .3) ((at-first-page .first-page .ensures)) ((at-earlier .earlier .ensures)) ((at-stretch .stretch .ensures)) ((at-later .later .ensures)) ((at-earlier2 .earlier2 .ensures)) ((at-later2 .later2 .ensures)) ((at-begin .begin .ensures .0))))
 
 behind-requires : tie.Need-behind-requires Inv-pieces μ-pieces
 behind-requires c κs =
     let at-q = c .before .before .before .before .before .before .before .before .before .before .before in
     let at-pull = at-q .before .before in
-    let at-earlier2 = at-pull .before .before .before .before .before .before .before .before .before .before .before .before .before .before .before in
+    let at-earlier2 = at-pull .before .before .before .before .before .before .before .before .before .before .before .before .before .before .before .before .before in
     let at-start = at-earlier2 .before .before .before .before .before .before .before .before .before .before .before in
-    omega (arith, (come (((at-start .args .book) .now)) (((at-start .args .h) .first)) (((at-start .args .ats) .now)) (((at-start .args .offsets) .now)) (((at-start .args .rules) .now)) (((at-earlier2 .earlier2 .result))) _ _ _ ((at-pull .pull .ensures)) ((at-q .q .given) .1)) .fits .point, good-rule (((at-start .args .book) .now)) _ ((come (((at-start .args .book) .now)) (((at-start .args .h) .first)) (((at-start .args .ats) .now)) (((at-start .args .offsets) .now)) (((at-start .args .rules) .now)) (((at-earlier2 .earlier2 .result))) _ _ _ ((at-pull .pull .ensures)) ((at-q .q .given) .1)) .fits .listed) .few)
+    omega (arith, (come (((at-start .args .book) .now)) (((at-start .args .h) .first)) (((at-start .args .ats) .now)) (((at-start .args .offsets) .now)) (((at-start .args .rules) .now)) (((at-earlier2 .earlier2 .result))) _ _ _ ((at-pull .pull .ensures .0)) ((at-q .q .given) .1)) .fits .point, good-rule (((at-start .args .book) .now)) _ ((come (((at-start .args .book) .now)) (((at-start .args .h) .first)) (((at-start .args .ats) .now)) (((at-start .args .offsets) .now)) (((at-start .args .rules) .now)) (((at-earlier2 .earlier2 .result))) _ _ _ ((at-pull .pull .ensures .0)) ((at-q .q .given) .1)) .fits .listed) .few)
 
 pieces-less : tie.Need-pieces-less Inv-pieces μ-pieces
 pieces-less c =
@@ -117,10 +120,10 @@ pieces-less c =
     let at-point-phase = at-behind .before .before .before .before .before .before .before in
     let at-q = at-point-phase .before .before .before .before .before in
     let at-pull = at-q .before .before in
-    let at-pieces = at-pull .before .before in
-    let at-earlier2 = at-pieces .before .before .before .before .before .before .before .before .before .before .before .before .before in
+    let at-pieces = at-pull .before .before .before in
+    let at-earlier2 = at-pieces .before .before .before .before .before .before .before .before .before .before .before .before .before .before in
     let at-start = at-earlier2 .before .before .before .before .before .before .before .before .before .before .before in
-    walked-less (((at-start .args .book) .now)) (((at-start .args .h) .first)) (((at-start .args .ats) .now)) (((at-start .args .offsets) .now)) (((at-start .args .rules) .now)) (((at-earlier2 .earlier2 .result))) ((at-pieces .pieces .inv) .1) ((come (((at-start .args .book) .now)) (((at-start .args .h) .first)) (((at-start .args .ats) .now)) (((at-start .args .offsets) .now)) (((at-start .args .rules) .now)) (((at-earlier2 .earlier2 .result))) _ _ _ ((at-pull .pull .ensures)) ((at-q .q .given) .1))) ((at-point-phase .point-phase .ensures)) ((at-behind .behind .ensures))
+    walked-less (((at-start .args .book) .now)) (((at-start .args .h) .first)) (((at-start .args .ats) .now)) (((at-start .args .offsets) .now)) (((at-start .args .rules) .now)) (((at-earlier2 .earlier2 .result))) ((at-pieces .pieces .inv) .1) ((come (((at-start .args .book) .now)) (((at-start .args .h) .first)) (((at-start .args .ats) .now)) (((at-start .args .offsets) .now)) (((at-start .args .rules) .now)) (((at-earlier2 .earlier2 .result))) _ _ _ ((at-pull .pull .ensures .0)) ((at-q .q .given) .1))) ((at-point-phase .point-phase .ensures)) ((at-behind .behind .ensures))
 
 pieces-again : tie.Need-pieces-again Inv-pieces μ-pieces
 pieces-again c =
@@ -129,48 +132,48 @@ pieces-again c =
     let at-point-phase = at-stretch2 .before .before .before .before in
     let at-q = at-point-phase .before .before .before .before .before in
     let at-pull = at-q .before .before in
-    let at-pieces = at-pull .before .before in
-    let at-earlier2 = at-pieces .before .before .before .before .before .before .before .before .before .before .before .before .before in
+    let at-pieces = at-pull .before .before .before in
+    let at-earlier2 = at-pieces .before .before .before .before .before .before .before .before .before .before .before .before .before .before in
     let at-start = at-earlier2 .before .before .before .before .before .before .before .before .before .before .before in
-    (stands-on (((at-start .args .book) .now)) (((at-start .args .h) .first)) (((at-start .args .ats) .now)) (((at-start .args .offsets) .now)) (((at-start .args .rules) .now)) (((at-earlier2 .earlier2 .result))) ((at-behind .behind .ensures)) ((come (((at-start .args .book) .now)) (((at-start .args .h) .first)) (((at-start .args .ats) .now)) (((at-start .args .offsets) .now)) (((at-start .args .rules) .now)) (((at-earlier2 .earlier2 .result))) _ _ _ ((at-pull .pull .ensures)) ((at-q .q .given) .1)) .stands), walked-next (((at-start .args .book) .now)) (((at-start .args .h) .first)) (((at-start .args .ats) .now)) (((at-start .args .offsets) .now)) (((at-start .args .rules) .now)) (((at-earlier2 .earlier2 .result))) ((at-pieces .pieces .inv) .1) ((come (((at-start .args .book) .now)) (((at-start .args .h) .first)) (((at-start .args .ats) .now)) (((at-start .args .offsets) .now)) (((at-start .args .rules) .now)) (((at-earlier2 .earlier2 .result))) _ _ _ ((at-pull .pull .ensures)) ((at-q .q .given) .1))) ((at-point-phase .point-phase .ensures)) ((at-stretch2 .stretch2 .ensures)) ((at-behind .behind .ensures)))
+    (stands-on (((at-start .args .book) .now)) (((at-start .args .h) .first)) (((at-start .args .ats) .now)) (((at-start .args .offsets) .now)) (((at-start .args .rules) .now)) (((at-earlier2 .earlier2 .result))) ((at-behind .behind .ensures)) ((come (((at-start .args .book) .now)) (((at-start .args .h) .first)) (((at-start .args .ats) .now)) (((at-start .args .offsets) .now)) (((at-start .args .rules) .now)) (((at-earlier2 .earlier2 .result))) _ _ _ ((at-pull .pull .ensures .0)) ((at-q .q .given) .1)) .stands), walked-next (((at-start .args .book) .now)) (((at-start .args .h) .first)) (((at-start .args .ats) .now)) (((at-start .args .offsets) .now)) (((at-start .args .rules) .now)) (((at-earlier2 .earlier2 .result))) ((at-pieces .pieces .inv) .1) ((come (((at-start .args .book) .now)) (((at-start .args .h) .first)) (((at-start .args .ats) .now)) (((at-start .args .offsets) .now)) (((at-start .args .rules) .now)) (((at-earlier2 .earlier2 .result))) _ _ _ ((at-pull .pull .ensures .0)) ((at-q .q .given) .1))) ((at-point-phase .point-phase .ensures)) ((at-stretch2 .stretch2 .ensures)) ((at-behind .behind .ensures)), at-pull .pull .ensures .1)
 
 stretch-requires-3 : tie.Need-stretch-requires-3 Inv-pieces μ-pieces
 stretch-requires-3 c κs =
     let at-enum-told = c .before .before .before in
     let at-pull = at-enum-told .before .before in
-    let at-pieces = at-pull .before .before in
+    let at-pieces = at-pull .before .before .before in
     let at-begin = at-pieces .before in
-    let at-stretch = at-begin .before .before .before .before in
+    let at-stretch = at-begin .before .before .before .before .before in
     let at-first-page = at-stretch .before .before .before .before in
     let at-later2 = at-first-page .before .before .before in
     let at-earlier2 = at-later2 .before in
     let at-later = at-earlier2 .before in
     let at-earlier = at-later .before in
     let at-start = at-earlier .before .before .before .before .before .before .before .before .before in
-    done-coming (((at-start .args .book) .now)) (((at-start .args .h) .first)) (((at-start .args .ats) .now)) (((at-start .args .offsets) .now)) (((at-start .args .rules) .now)) (((at-earlier2 .earlier2 .result))) ((at-pieces .pieces .inv) .1) ((gone (((at-start .args .book) .now)) (((at-start .args .h) .first)) (((at-start .args .ats) .now)) (((at-start .args .offsets) .now)) (((at-start .args .rules) .now)) (((at-earlier2 .earlier2 .result))) _ _ _ ((at-pull .pull .ensures)) ((at-enum-told .enum-told .given) .1))) ((venue-standing (((at-start .args .book) .now)) ((at-start .args .h)) (((at-start .args .ats) .now)) (((at-start .args .offsets) .now)) (((at-start .args .rules) .now)) ((at-start .args .events) .now) ((at-start .args .out) .now) ((at-start .pre) .1) ((at-start .pre) .2) ((at-start .pre) .3) ((at-first-page .first-page .ensures)) ((at-earlier .earlier .ensures)) ((at-stretch .stretch .ensures)) ((at-later .later .ensures)) ((at-earlier2 .earlier2 .ensures)) ((at-later2 .later2 .ensures)) ((at-begin .begin .ensures))))
+    done-coming (((at-start .args .book) .now)) (((at-start .args .h) .first)) (((at-start .args .ats) .now)) (((at-start .args .offsets) .now)) (((at-start .args .rules) .now)) (((at-earlier2 .earlier2 .result))) ((at-pieces .pieces .inv) .1) ((gone (((at-start .args .book) .now)) (((at-start .args .h) .first)) (((at-start .args .ats) .now)) (((at-start .args .offsets) .now)) (((at-start .args .rules) .now)) (((at-earlier2 .earlier2 .result))) _ _ _ ((at-pull .pull .ensures .0)) ((at-enum-told .enum-told .given) .1))) ((venue-standing (((at-start .args .book) .now)) ((at-start .args .h)) (((at-start .args .ats) .now)) (((at-start .args .offsets) .now)) (((at-start .args .rules) .now)) ((at-start .args .events) .now) ((at-start .args .out) .now) ((at-start .pre) .1) ((at-start .pre) .2) ((at-start .pre) .3) ((at-first-page .first-page .ensures)) ((at-earlier .earlier .ensures)) ((at-stretch .stretch .ensures)) ((at-later .later .ensures)) ((at-earlier2 .earlier2 .ensures)) ((at-later2 .later2 .ensures)) ((at-begin .begin .ensures .0))))
 
 finish-requires : tie.Need-finish-requires Inv-pieces μ-pieces
 finish-requires c κs =
     let at-stretch3 = c .before .before .before .before .before in
     let at-enum-told = at-stretch3 .before .before .before .before in
     let at-pull = at-enum-told .before .before in
-    let at-pieces = at-pull .before .before in
+    let at-pieces = at-pull .before .before .before in
     let at-begin = at-pieces .before in
-    let at-stretch = at-begin .before .before .before .before in
+    let at-stretch = at-begin .before .before .before .before .before in
     let at-first-page = at-stretch .before .before .before .before in
     let at-later2 = at-first-page .before .before .before in
     let at-earlier2 = at-later2 .before in
     let at-later = at-earlier2 .before in
     let at-earlier = at-later .before in
     let at-start = at-earlier .before .before .before .before .before .before .before .before .before in
-    done-ending (((at-start .args .book) .now)) (((at-start .args .h) .first)) (((at-start .args .ats) .now)) (((at-start .args .offsets) .now)) (((at-start .args .rules) .now)) (((at-earlier2 .earlier2 .result))) ((at-pieces .pieces .inv) .1) ((gone (((at-start .args .book) .now)) (((at-start .args .h) .first)) (((at-start .args .ats) .now)) (((at-start .args .offsets) .now)) (((at-start .args .rules) .now)) (((at-earlier2 .earlier2 .result))) _ _ _ ((at-pull .pull .ensures)) ((at-enum-told .enum-told .given) .1))) ((venue-standing (((at-start .args .book) .now)) ((at-start .args .h)) (((at-start .args .ats) .now)) (((at-start .args .offsets) .now)) (((at-start .args .rules) .now)) ((at-start .args .events) .now) ((at-start .args .out) .now) ((at-start .pre) .1) ((at-start .pre) .2) ((at-start .pre) .3) ((at-first-page .first-page .ensures)) ((at-earlier .earlier .ensures)) ((at-stretch .stretch .ensures)) ((at-later .later .ensures)) ((at-earlier2 .earlier2 .ensures)) ((at-later2 .later2 .ensures)) ((at-begin .begin .ensures)))) ((at-stretch3 .stretch3 .ensures))
+    done-ending (((at-start .args .book) .now)) (((at-start .args .h) .first)) (((at-start .args .ats) .now)) (((at-start .args .offsets) .now)) (((at-start .args .rules) .now)) (((at-earlier2 .earlier2 .result))) ((at-pieces .pieces .inv) .1) ((gone (((at-start .args .book) .now)) (((at-start .args .h) .first)) (((at-start .args .ats) .now)) (((at-start .args .offsets) .now)) (((at-start .args .rules) .now)) (((at-earlier2 .earlier2 .result))) _ _ _ ((at-pull .pull .ensures .0)) ((at-enum-told .enum-told .given) .1))) ((venue-standing (((at-start .args .book) .now)) ((at-start .args .h)) (((at-start .args .ats) .now)) (((at-start .args .offsets) .now)) (((at-start .args .rules) .now)) ((at-start .args .events) .now) ((at-start .args .out) .now) ((at-start .pre) .1) ((at-start .pre) .2) ((at-start .pre) .3) ((at-first-page .first-page .ensures)) ((at-earlier .earlier .ensures)) ((at-stretch .stretch .ensures)) ((at-later .later .ensures)) ((at-earlier2 .earlier2 .ensures)) ((at-later2 .later2 .ensures)) ((at-begin .begin .ensures .0)))) ((at-stretch3 .stretch3 .ensures))
 
 same-length : tie.Need-same-length Inv-pieces μ-pieces
 same-length c =
     let at-finish = c .before .before in
     let at-stretch3 = at-finish .before .before .before .before .before .before in
-    let at-pieces = at-stretch3 .before .before .before .before .before .before .before .before in
-    let at-stretch = at-pieces .before .before .before .before .before in
+    let at-pieces = at-stretch3 .before .before .before .before .before .before .before .before .before in
+    let at-stretch = at-pieces .before .before .before .before .before .before in
     ((at-finish .finish .ensures)) .kept ∙ ((at-stretch3 .stretch3 .ensures)) .kept ∙ ((at-pieces .pieces .inv) .1) .kept ∙ ((at-stretch .stretch .ensures)) .kept
 
 returns : tie.Need-returns Inv-pieces μ-pieces
@@ -179,16 +182,16 @@ returns c =
     let at-stretch3 = at-finish .before .before .before .before .before .before in
     let at-enum-told = at-stretch3 .before .before .before .before in
     let at-pull = at-enum-told .before .before in
-    let at-pieces = at-pull .before .before in
+    let at-pieces = at-pull .before .before .before in
     let at-begin = at-pieces .before in
-    let at-stretch = at-begin .before .before .before .before in
+    let at-stretch = at-begin .before .before .before .before .before in
     let at-first-page = at-stretch .before .before .before .before in
     let at-later2 = at-first-page .before .before .before in
     let at-earlier2 = at-later2 .before in
     let at-later = at-earlier2 .before in
     let at-earlier = at-later .before in
     let at-start = at-earlier .before .before .before .before .before .before .before .before .before in
-    done-put (((at-start .args .book) .now)) (((at-start .args .h) .first)) (((at-start .args .ats) .now)) (((at-start .args .offsets) .now)) (((at-start .args .rules) .now)) (((at-earlier2 .earlier2 .result))) ((at-pieces .pieces .inv) .1) ((gone (((at-start .args .book) .now)) (((at-start .args .h) .first)) (((at-start .args .ats) .now)) (((at-start .args .offsets) .now)) (((at-start .args .rules) .now)) (((at-earlier2 .earlier2 .result))) _ _ _ ((at-pull .pull .ensures)) ((at-enum-told .enum-told .given) .1))) ((venue-standing (((at-start .args .book) .now)) ((at-start .args .h)) (((at-start .args .ats) .now)) (((at-start .args .offsets) .now)) (((at-start .args .rules) .now)) ((at-start .args .events) .now) ((at-start .args .out) .now) ((at-start .pre) .1) ((at-start .pre) .2) ((at-start .pre) .3) ((at-first-page .first-page .ensures)) ((at-earlier .earlier .ensures)) ((at-stretch .stretch .ensures)) ((at-later .later .ensures)) ((at-earlier2 .earlier2 .ensures)) ((at-later2 .later2 .ensures)) ((at-begin .begin .ensures)))) ((at-stretch3 .stretch3 .ensures)) ((at-finish .finish .ensures))
+    done-put (((at-start .args .book) .now)) (((at-start .args .h) .first)) (((at-start .args .ats) .now)) (((at-start .args .offsets) .now)) (((at-start .args .rules) .now)) (((at-earlier2 .earlier2 .result))) ((at-pieces .pieces .inv) .1) ((gone (((at-start .args .book) .now)) (((at-start .args .h) .first)) (((at-start .args .ats) .now)) (((at-start .args .offsets) .now)) (((at-start .args .rules) .now)) (((at-earlier2 .earlier2 .result))) _ _ _ ((at-pull .pull .ensures .0)) ((at-enum-told .enum-told .given) .1))) ((venue-standing (((at-start .args .book) .now)) ((at-start .args .h)) (((at-start .args .ats) .now)) (((at-start .args .offsets) .now)) (((at-start .args .rules) .now)) ((at-start .args .events) .now) ((at-start .args .out) .now) ((at-start .pre) .1) ((at-start .pre) .2) ((at-start .pre) .3) ((at-first-page .first-page .ensures)) ((at-earlier .earlier .ensures)) ((at-stretch .stretch .ensures)) ((at-later .later .ensures)) ((at-earlier2 .earlier2 .ensures)) ((at-later2 .later2 .ensures)) ((at-begin .begin .ensures .0)))) ((at-stretch3 .stretch3 .ensures)) ((at-finish .finish .ensures))
 
 pub put-tallies-spec : {M : Type 1} → statement M
 put-tallies-spec =

@@ -1,3 +1,5 @@
+use Rattle.walk.proofs.Shifting.{steady-on}
+use Rattle.zone.proofs.Domain.{date-small}
 use Rattle.walk.proofs.Rest.{kept-nothing, kept-rule, begun}
 use Rattle.day.proofs.Points.{stands-at}
 use Rattle.day.specs.Governing.{governing}
@@ -12,15 +14,23 @@ use borrow.Author.Needs.{needs}
 use Rattle.walk.proofs.turn.begin.Statement.{statement}
 use Rattle.walk.proofs.turn.begin.Tie as tie
 
-day-at-requires : tie.Need-day-at-requires
-day-at-requires c κs =
+steady-offset-requires : tie.Need-steady-offset-requires
+steady-offset-requires c κs =
     let at-start = c .before .before .before .before in
     (at-start .pre) .0
 
-governing-requires : tie.Need-governing-requires
-governing-requires c κs =
-    let at-start = c .before .before .before .before .before in
-    (at-start .pre) .1
+date-of-requires : tie.Need-date-of-requires
+date-of-requires c κs =
+    let at-steady-offset = c in
+    let at-start = at-steady-offset .before .before .before .before .before in
+    ((at-start .pre) .0, (at-steady-offset .steady-offset .ensures))
+
+governing-near-requires : tie.Need-governing-near-requires
+governing-near-requires c κs =
+    let at-governing-near-arg = c in
+    let at-date-of = at-governing-near-arg .before in
+    let at-start = at-date-of .before .before .before .before .before .before in
+    ((at-start .pre) .1, (at-start .pre) .2, omega (arith, (at-governing-near-arg .governing-near-arg .given)), omega (arith, (at-date-of .date-of .ensures), date-small ((at-start .args .first)) ((at-start .args .ats) .now) ((at-start .args .offsets) .now) ((at-start .args .cursor) .0) ((at-start .pre) .0)))
 
 enum-told : tie.Need-enum-told
 enum-told c = search needs
@@ -28,39 +38,42 @@ enum-told c = search needs
 enum-known-governed : tie.Need-enum-known-governed
 enum-known-governed c = search needs
 
-boundaries-requires : tie.Need-boundaries-requires
-boundaries-requires c κs =
-    let at-boundaries-arg = c in
-    let at-governed = at-boundaries-arg .before .before in
-    let at-governing = at-governed .before .before in
-    let at-start = at-governing .before .before .before .before .before .before in
-    ((at-start .pre) .0, stands-at ((at-start .args .book) .now) ((at-governing .governing .ensures) .1) ((at-governed .governed .given) .1), omega (arith, (at-boundaries-arg .boundaries-arg .given)))
+date-boundaries-requires : tie.Need-date-boundaries-requires
+date-boundaries-requires c κs =
+    let at-date-boundaries-arg = c in
+    let at-governed = at-date-boundaries-arg .before .before in
+    let at-governing-near = at-governed .before .before in
+    let at-date-of = at-governing-near .before .before in
+    let at-steady-offset = at-date-of .before in
+    let at-start = at-steady-offset .before .before .before .before .before in
+    ((at-start .pre) .0, stands-at ((at-start .args .book) .now) ((at-governing-near .governing-near .ensures) .1) ((at-governed .governed .given) .1), omega (arith, (at-date-boundaries-arg .date-boundaries-arg .given)), steady-on ((at-start .args .first)) ((at-start .args .ats) .now) ((at-start .args .offsets) .now) ((at-start .pre) .0) ((at-start .args .cursor) .0) _ ((at-steady-offset .steady-offset .ensures)) _ ((at-date-of .date-of .ensures)))
 
 returns : tie.Need-returns
 returns c =
     let at-enum-told = c in
-    let at-governing = at-enum-told .before .before in
-    let at-day-at = at-governing .before in
-    let at-start = at-day-at .before .before .before .before .before in
-    begun ((at-start .args .book) .now) (zoneOf (at-start .args .first) ((at-start .args .ats) .now) ((at-start .args .offsets) .now)) (governing (map (ruleAt ((at-start .args .book) .now)) ((at-start .args .rules) .now))) (at-start .args .turns) (at-start .args .cursor) _ _ true _ (at-day-at .day-at .ensures) ((at-governing .governing .ensures) .0) (kept-nothing ((at-start .args .book) .now) (zoneOf (at-start .args .first) ((at-start .args .ats) .now) ((at-start .args .offsets) .now)) _ true _ ((at-enum-told .enum-told .given) .1))
+    let at-governing-near = at-enum-told .before .before in
+    let at-date-of = at-governing-near .before .before in
+    let at-start = at-date-of .before .before .before .before .before .before in
+    (begun ((at-start .args .book) .now) (zoneOf (at-start .args .first) ((at-start .args .ats) .now) ((at-start .args .offsets) .now)) (governing (map (ruleAt ((at-start .args .book) .now)) ((at-start .args .rules) .now))) (at-start .args .turns) (at-start .args .cursor) _ _ true _ (at-date-of .date-of .ensures) ((at-governing-near .governing-near .ensures) .0) (kept-nothing ((at-start .args .book) .now) (zoneOf (at-start .args .first) ((at-start .args .ats) .now) ((at-start .args .offsets) .now)) _ true _ ((at-enum-told .enum-told .given) .1)), (at-governing-near .governing-near .ensures) .2)
 
 returns-2 : tie.Need-returns-2
 returns-2 c =
-    let at-boundaries = c in
-    let at-governed = at-boundaries .before .before .before in
-    let at-governing = at-governed .before .before in
-    let at-day-at = at-governing .before in
-    let at-start = at-day-at .before .before .before .before .before in
-    begun ((at-start .args .book) .now) (zoneOf (at-start .args .first) ((at-start .args .ats) .now) ((at-start .args .offsets) .now)) (governing (map (ruleAt ((at-start .args .book) .now)) ((at-start .args .rules) .now))) (at-start .args .turns) (at-start .args .cursor) (at-day-at .day-at .result) _ _ _ (at-day-at .day-at .ensures) (sym (ap (ruled ((at-start .args .book) .now)) ((at-governed .governed .given) .1)) ∙ (at-governing .governing .ensures) .0) (kept-rule ((at-start .args .book) .now) (zoneOf (at-start .args .first) ((at-start .args .ats) .now) ((at-start .args .offsets) .now)) ((at-day-at .day-at .result) .0) _ _ _ refl (stands-at ((at-start .args .book) .now) ((at-governing .governing .ensures) .1) ((at-governed .governed .given) .1)) ((at-boundaries .boundaries .ensures) .0) ((at-boundaries .boundaries .ensures) .1))
+    let at-date-boundaries = c in
+    let at-governed = at-date-boundaries .before .before .before in
+    let at-governing-near = at-governed .before .before in
+    let at-date-of = at-governing-near .before .before in
+    let at-start = at-date-of .before .before .before .before .before .before in
+    (begun ((at-start .args .book) .now) (zoneOf (at-start .args .first) ((at-start .args .ats) .now) ((at-start .args .offsets) .now)) (governing (map (ruleAt ((at-start .args .book) .now)) ((at-start .args .rules) .now))) (at-start .args .turns) (at-start .args .cursor) (at-date-of .date-of .result) _ _ _ (at-date-of .date-of .ensures) (sym (ap (ruled ((at-start .args .book) .now)) ((at-governed .governed .given) .1)) ∙ (at-governing-near .governing-near .ensures) .0) (kept-rule ((at-start .args .book) .now) (zoneOf (at-start .args .first) ((at-start .args .ats) .now) ((at-start .args .offsets) .now)) ((at-date-of .date-of .result) .0) _ _ _ refl (stands-at ((at-start .args .book) .now) ((at-governing-near .governing-near .ensures) .1) ((at-governed .governed .given) .1)) ((at-date-boundaries .date-boundaries .ensures) .0) ((at-date-boundaries .date-boundaries .ensures) .1)), (at-governing-near .governing-near .ensures) .2)
 
 pub begin-spec : {M : Type 1} → statement M
 begin-spec =
     tie.close
     (tie.spec
-    day-at-requires
-    governing-requires
+    steady-offset-requires
+    date-of-requires
+    governing-near-requires
     enum-told
     enum-known-governed
-    boundaries-requires
+    date-boundaries-requires
     returns
     returns-2)
