@@ -16,7 +16,7 @@ use Rattle.zone.specs.Steady.{steadyOf, dayBy, midnightBy}
 use Rattle.zone.specs.declared.Boundary.{Boundary}
 use Rattle.zone.specs.declared.steady.Steady.{Steady}
 use Rattle.zone.specs.declared.steady.Steady.the-variants.{No, By}
-use Rattle.zone.proofs.Shifts.{steady-date, steady-boundary}
+use Rattle.zone.proofs.Shifts.{in-date, steady-date, steady-boundary}
 use Rattle.records.specs.Records.{Event, eventAt}
 use Rattle.venue.specs.Opening.{dayOf}
 use Rattle.venue.specs.Reading.{Listed, AllListed, EachTime, published}
@@ -131,7 +131,7 @@ kept-found book first ats os events v l from to o e =
     let b = steady-date first ats os v from to o (span .0) (span .1) to (span .0) (omega arith) in
     let f = dates-forward o from to (span .0) in
     ap₂ (λ (c d : ℕ). map (keptAs book) (keptDates book events o from to c (suc (d - c)))) (sym a) (sym b)
-    ∙ dates-found book z from to o (λ d x u g h i. steady-boundary first ats os v from to o (span .0) (span .1) d x (published (u .uncertainty)) g (omega arith) i) events
+    ∙ dates-found book z from to o (λ d x u g h i. steady-boundary first ats os v from to o (span .0) (span .1) d x (published (u .uncertainty)) g i (in-date d x (dateAt z to) (omega arith) i)) events
     (each-listed book events l) (dateAt z from) (suc (dateAt z to - dateAt z from)) (omega arith) (last (dateAt z from) (dateAt z to) (omega (arith, a, b, f)))
   where
     last : (c d : ℕ) → c ≤ d → c + suc (d - c) ≤ suc d

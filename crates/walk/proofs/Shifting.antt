@@ -15,7 +15,7 @@ use Rattle.zone.specs.declared.Uncertainty.{Uncertainty}
 use Rattle.zone.specs.declared.Uncertainty.the-variants.{Exact}
 use Rattle.zone.specs.declared.steady.Steady.{Steady}
 use Rattle.zone.specs.declared.steady.Steady.the-variants.{No, By}
-use Rattle.zone.proofs.Shifts.{steady-in, steady-date, steady-day-in, steady-boundary}
+use Rattle.zone.proofs.Shifts.{steady-in, steady-date, steady-day-in, in-date, next-midnight as ends-date, steady-boundary}
 use Rattle.records.specs.Records.{Point, Rule}
 use Rattle.venue.specs.Reading.{EachPoint}
 use Rattle.venue.specs.Reading as Reading
@@ -38,6 +38,9 @@ midnight-fits (h, i, j) = omega arith
 on-day : {a b : ℕ} → a ≡ b → (b ≤ a) × (a ≤ suc b)
 on-day e = (omega arith, omega arith)
 
+until : {a b : ℕ} → a ≡ b → a ≤ b
+until e = omega arith
+
 next-day : {a b : ℕ} → a ≡ b → (b ≤ suc a) × (suc a ≤ suc b)
 next-day e = (omega arith, omega arith)
 
@@ -56,9 +59,9 @@ module _ (first : ℕ) (ats os : List ℕ) (ok : Valid first ats os) (c : ℕ) w
       let day = steady-day-in first ats os ok c c o same (sym e) d (here .0) (here .1) in (
         day,
         record {
-          times = λ x u h. steady-boundary first ats os ok c c o same (sym e) d x u (here .0) (here .1) h;
+          times = λ x u h. steady-boundary first ats os ok c c o same (sym e) d x u (here .0) h (in-date d x (dateAt z c) (until f) h);
           next = λ u.
-              steady-boundary first ats os ok c c o same (sym e) (suc d) 0 u (next .0) (next .1) (omega arith)
+              steady-boundary first ats os ok c c o same (sym e) (suc d) 0 u (next .0) (omega arith) (ends-date d (dateAt z c) (until f))
               ∙ ap (boundary-at u) (next-midnight o d (day .0) (day .1));
         },
       )

@@ -116,7 +116,7 @@ stays o a b t (c ∷ cs) e h i = go (λ p r. stays p a b t cs r h i) (decLe (c .
         ∙ on o (sym (beyond a b (c .at) (noneWithin a b cs) (omega arith) (omega arith)) ∙ e)
         ∙ sym (ap (λ (v : Bool). lastOffset (cond v (c .offset) o) cs a) (lt-leb (c .at) a (omega arith)))
 
--- the stretch is well inside the instants in use, and the offset is o from four days before it to four days after it
+-- the stretch is well inside the instants in use, and the offset is o from 56 hours before it to 56 hours after it
 pub record Calm (z : Zone) (from to o : ℕ) : Type 0 where
   pub early : firstSteady ≤ from
   pub late : to ≤ lastSteady
@@ -167,11 +167,21 @@ far-enough d x h = omega arith
 behind-midnight : (o d x : ℕ) → o ≤ 2 * mostOffset → 3 ≤ d → d * dayNs + x + mostNs - offsetNs o ≡ midnightBy o d + x
 behind-midnight o d x h i = omega arith
 
+not-past : (d x e : ℕ) → d * dayNs + x ≤ suc e * dayNs → d ≤ suc e
+not-past d x e h = omega arith
+
+-- what ends by a date's last midnight: its times, and the next midnight
+pub in-date : (d x e : ℕ) → d ≤ e → x ≤ dayNs → d * dayNs + x ≤ suc e * dayNs
+in-date d x e h i = omega arith
+
+pub next-midnight : (d e : ℕ) → d ≤ e → suc d * dayNs + 0 ≤ suc e * dayNs
+next-midnight d e h = omega arith
+
 near-low : (o from d x t : ℕ) → o ≤ 2 * mostOffset → firstSteady ≤ from → dayBy o from ≤ d → d * dayNs + x - mostNs ≤ t → from ≤ t + marginNs
 near-low o from d x t h i j k = omega arith
 
-near-high : (o to d x t : ℕ) → o ≤ 2 * mostOffset → d ≤ suc (dayBy o to) → x ≤ dayNs → firstSteady ≤ to → t ≤ d * dayNs + x + mostNs → t ≤ to + marginNs
-near-high o to d x t h i j l k = omega arith
+near-high : (o to d x t : ℕ) → o ≤ 2 * mostOffset → d * dayNs + x ≤ suc (dayBy o to) * dayNs → firstSteady ≤ to → t ≤ d * dayNs + x + mostNs → t ≤ to + marginNs
+near-high o to d x t h i l k = omega arith
 
 module _ (first : ℕ) (ats os : List ℕ) (ok : Valid first ats os) (from to o : ℕ) (h : from ≤ to) (e : steadyOf (zoneOf first ats os) from to ≡ By o) where
   abbrev z : Zone
@@ -202,16 +212,16 @@ module _ (first : ℕ) (ats os : List ℕ) (ok : Valid first ats os) (from to o 
     day-high o to d most (calm .late) (subst (λ (k : ℕ). d ≤ suc k) (steady-date to h (omega arith)) b),
   )
 
-  -- converts by the offset
-  pub steady-boundary : (d x : ℕ) (u : Uncertainty) → dateAt z from ≤ d → d ≤ suc (dateAt z to) → x ≤ dayNs
+  -- converts by the offset, up to the midnight that ends the last date
+  pub steady-boundary : (d x : ℕ) (u : Uncertainty) → dateAt z from ≤ d → x ≤ dayNs → d * dayNs + x ≤ suc (dateAt z to) * dayNs
       → boundaryAt z d x u ≡ record { at = record { 0 = midnightBy o d + x }; uncertainty = u }
-  steady-boundary d x u a b c =
+  steady-boundary d x u a c b =
       let i = subst (λ (k : ℕ). k ≤ d) (steady-date from (omega arith) h) a in
-      let j = subst (λ (k : ℕ). d ≤ suc k) (steady-date to h (omega arith)) b in
-      let in-use = steady-day-in d a b in
+      let j = subst (λ (k : ℕ). d * dayNs + x ≤ suc k * dayNs) (steady-date to h (omega arith)) b in
+      let in-use = steady-day-in d a (not-past d x (dateAt z to) b) in
       let w = d * dayNs + x in
       let shifted = resolve-steady first ats os ok w (far-enough d x (in-use .1)) o
-      (λ t p q. calm .same t (near-low o from d x t most (calm .early) i p) (near-high o to d x t most j c (omega (arith, calm .early)) q)) in
+      (λ t p q. calm .same t (near-low o from d x t most (calm .early) i p) (near-high o to d x t most j (omega (arith, calm .early, h)) q)) in
       ap (λ (r : ℕ). boundary (resolve z r) u) (reading-plain d x (in-use .1) (in-use .2) c)
       ∙ ap (λ (r : Resolution). boundary r u) shifted
       ∙ at-by (w + mostNs - offsetNs o) (midnightBy o d + x) u (behind-midnight o d x most (in-use .1))

@@ -10,8 +10,9 @@ use Rattle.zone.specs.Zone.{Change, Zone, offsetAt, instantBy}
 use Rattle.zone.specs.declared.steady.Steady.{Steady}
 use Rattle.zone.specs.declared.steady.Steady.the-variants.{No, By}
 
+-- 56 hours: a day, and twice as much as an offset can be
 abbrev pub marginNs : ℕ
-marginNs = 4 * dayNs
+marginNs = dayNs + 2 * mostNs
 
 -- where transitions can stand: so far from the first and the last instant in use that nothing saturates
 abbrev pub firstSteady : ℕ
@@ -25,7 +26,7 @@ unfoldable pub noneWithin : ℕ → ℕ → List Change → Bool
 noneWithin a b [] = true
 noneWithin a b (c ∷ cs) = not (ltb a (c .at) && leb (c .at) b) && noneWithin a b cs
 
--- the offset, if no transition stands from four days before `from` to four days after `to`
+-- the offset, if no transition stands from 56 hours before `from` to 56 hours after `to`
 unfoldable pub steadyOf : Zone → ℕ → ℕ → Steady
 steadyOf z from to =
     cond (leb firstSteady from && leb to lastSteady)

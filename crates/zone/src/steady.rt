@@ -19,7 +19,8 @@ pub enum Steady {
 
 const MOST_NS: u64 = 57_600 * SECOND_NS;
 
-const MARGIN_NS: u64 = 4 * DAY_NS;
+// A day, and twice as much as an offset can be.
+const MARGIN_NS: u64 = DAY_NS + 2 * MOST_NS;
 
 const FIRST_STEADY: u64 = 7 * DAY_NS;
 
@@ -35,7 +36,7 @@ fn next_at(ats: &[u64], count: usize) -> u64
     0xffff_ffff_ffff_ffff
 }
 
-// The offset from four days before one instant to four days after another, if no transition stands there.
+// The offset from 56 hours before one instant to 56 hours after another, if no transition stands there.
 pub fn steady_offset(first: u32, ats: &[u64], offsets: &[u32], from: Instant, to: Instant) -> Steady
     requires { ⌜ Valid first (now ats) (now offsets) ⌝ }
     ensures { λ r. ⌜ r ≡ steadyOf (zoneOf first (now (ats .entry)) (now (offsets .entry))) (from .0) (to .0) ⌝ }
