@@ -1,15 +1,19 @@
 -- The transitions that have passed, as the code finds them, and what it makes of them. Assumes nothing.
-use mathlib.Core.Path.{_≡_, refl, sym, ap₂, _∙_}
+use mathlib.Core.Path.{_≡_, refl, sym, ap₂, subst, _∙_}
+use mathlib.Core.Bool.{true, _&&_}
 use mathlib.Core.List.{List, [], _∷_}
 use mathlib.Core.Logic.{⊎-elim}
 use Prim.Native.Nat.{ℕ, zero, suc, _+_, _-_, _*_, _≤_, _<_, _^_}
-use native.Mathlib.Nat.{not-suc-le-zero, le-of-suc-le-suc, eq-or-lt-of-le}
+use native.Mathlib.Nat.{not-suc-le-zero, le-of-suc-le-suc, le-refl, mul-le-mul, eq-or-lt-of-le}
+use borrow.Author.Tests.{leb-true, ltb-true}
+use lib.Dec.{leb, ltb}
+use Rattle.wire.proofs.Signs.{and-true}
 use native.Mathlib.Omega.{arith}
 use lib.ListN.{length, getD, List·getD-eq-default}
 use Rattle.zone.specs.Units.{mostOffset, mostNs}
 use Rattle.zone.specs.Zone.{Zone, zoneOf, offsetAt, instantBy, resolve}
 use Rattle.zone.specs.Answers.{Each, Spaced, spacingNs, Valid}
-use Rattle.zone.specs.Private.{Passed, around}
+use Rattle.zone.specs.Private.{Between, Passed, around}
 use Rattle.zone.specs.declared.Resolution.the-variants.{Clear}
 use Rattle.zone.proofs.Offsets.{offset-passed}
 use Rattle.zone.proofs.Readings.{resolve-around, resolve-steady}
@@ -34,6 +38,33 @@ spaced-at [] k s h = absurd (not-suc-le-zero h)
 spaced-at (a ∷ []) k s h = absurd (not-suc-le-zero (le-of-suc-le-suc h))
 spaced-at (a ∷ b ∷ l) zero s h = s .0
 spaced-at (a ∷ b ∷ l) (suc k) s h = spaced-at (b ∷ l) k (s .1) (le-of-suc-le-suc h)
+
+-- ---- between which numbers it lies, as the code tries it
+
+pub next-far : (ats : List ℕ) (k b : ℕ) → b < getD ats k 18446744073709551615 → b < getD ats k (2 ^ 64)
+next-far [] k b h = omega arith
+next-far (x ∷ ats) zero b h = h
+next-far (x ∷ ats) (suc k) b h = next-far ats k b h
+
+pub between-all : (ats : List ℕ) (t : ℕ) → t < 2 ^ 64 → Between ats t 0 (length ats)
+between-all ats t h =
+    let past = List·getD-eq-default ats (2 ^ 64) (le-refl (length ats)) in
+    record { order = omega arith; most = omega arith; last = omega arith; next = rw past h }
+
+pub between-one : (ats : List ℕ) (t k last next : ℕ) → k < length ats → last ≡ getD (0 ∷ ats) k 0 → next ≡ getD ats (k + 1) 18446744073709551615
+    → (leb last t && ltb t next) ≡ true → Between ats t k (k + 1)
+between-one ats t k last next h e f g =
+    let both = and-true (leb last t) (ltb t next) g in
+    record {
+      order = omega arith;
+      most = omega arith;
+      last = subst (λ (x : ℕ). x ≤ t) e (leb-true last t (both .0));
+      next = next-far ats (k + 1) t (subst (λ (x : ℕ). t < x) f (ltb-true t next (both .1)));
+    }
+
+-- the guess's product is small
+pub even-fits : (g n : ℕ) → g ≤ 4294967296 → n ≤ 4096 → g * n < 2 ^ 64
+even-fits g n h i = let m = mul-le-mul h i in omega (arith, m)
 
 -- ---- the same number has passed until the next transition, and one more from there on
 

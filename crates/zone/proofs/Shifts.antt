@@ -73,11 +73,6 @@ next-near [] k b h i = absurd (omega arith)
 next-near (x ∷ ats) zero b h i = (omega arith, h)
 next-near (x ∷ ats) (suc k) b h i = let on = next-near ats k b h i in (omega (arith, on .0), on .1)
 
-pub next-far : (ats : List ℕ) (k b : ℕ) → b < getD ats k 18446744073709551615 → b < getD ats k (2 ^ 64)
-next-far [] k b h = omega arith
-next-far (x ∷ ats) zero b h = h
-next-far (x ∷ ats) (suc k) b h = next-far ats k b h
-
 -- what the code answers
 pub steady-early : (z : Zone) (from to : ℕ) → from < firstSteady → steadyOf z from to ≡ No
 unfolding steadyOf

@@ -16,6 +16,13 @@ pub record Passed (ats : List ℕ) (t r : ℕ) : Type 0 where
   pub last : getD (0 ∷ ats) r 0 ≤ t
   pub next : t < getD ats r (2 ^ 64)
 
+-- how many do is from `from` to `to`
+pub record Between (ats : List ℕ) (t from to : ℕ) : Type 0 where
+  pub order : from ≤ to
+  pub most : to ≤ length ats
+  pub last : getD (0 ∷ ats) from 0 ≤ t
+  pub next : t < getD ats to (2 ^ 64)
+
 -- a reading around one transition: a by the offset before it, b by the one after
 abbrev pub around : ℕ → ℕ → ℕ → Resolution
 around at a b =

@@ -1,20 +1,29 @@
 // The offset that holds at an instant. An offset is in seconds plus 57,600, so that it is never negative.
 ghost use mathlib.Core.Path.{_≡_};
+ghost use mathlib.Core.Bool.{true};
 ghost use mathlib.Core.List.{_∷_};
 ghost use Prim.Native.Nat.{_*_, _≤_};
 ghost use lib.ListN.{length, getD};
 ghost use Rattle.zone.specs.Units.{mostOffset};
 ghost use Rattle.zone.specs.Zone.{zoneOf, offsetAt};
 ghost use Rattle.zone.specs.Answers.{Valid};
-ghost use Rattle.zone.specs.Private.{Passed};
+ghost use Rattle.zone.specs.Private.{Between, Passed};
 use crate::Instant;
 
-// How many of the transitions stand at or before an instant, by bisection.
-pub(crate) fn passed(ats: &[u64], t: u64) -> usize
+// The guess is made of as many transitions as these, in units of some 4 seconds.
+const FEW: usize = 8;
+
+const MANY: usize = 4_096;
+
+const NEAR_NS: u64 = 0x1_0000_0000;
+
+// Where it is known to lie between two numbers, by bisection.
+fn bisected(ats: &[u64], t: u64, from: usize, to: usize) -> usize
+    requires { ⌜ Between (now ats) t from to ⌝ }
     ensures { λ r. ⌜ Passed (now (ats .entry)) t r ⌝ }
 {
-    let mut low: usize = 0;
-    let mut high = ats.len();
+    let mut low = from;
+    let mut high = to;
     while low < high {
         let middle = low + (high - low) / 2;
         if ats[middle] <= t {
@@ -24,6 +33,67 @@ pub(crate) fn passed(ats: &[u64], t: u64) -> usize
         }
     }
     low
+}
+
+// What it would be if they stood evenly: 4 seconds are near enough.
+fn guess(ats: &[u64], t: u64) -> usize
+    ensures { λ r. ⌜ r ≤ length (now (ats .entry)) ⌝ }
+{
+    let n = ats.len();
+    if n < FEW {
+        return 0;
+    }
+    if MANY < n {
+        return 0;
+    }
+    let first = ats[0];
+    let last = ats[n - 1];
+    if t < first {
+        return 0;
+    }
+    if last <= t {
+        return n;
+    }
+    let gone = (t - first) / NEAR_NS;
+    let span = (last - first) / NEAR_NS;
+    let even = gone * (n as u64) / (span + 1);
+    if even < n as u64 { even as usize } else { n }
+}
+
+// Where the last transition stands once a number have passed; where there is none, at the first instant of all.
+fn last_at(ats: &[u64], count: usize) -> u64
+    requires { ⌜ count ≤ length (now ats) ⌝ }
+    ensures { λ r. ⌜ r ≡ getD (0 ∷ now (ats .entry)) count 0 ⌝ }
+{
+    if count == 0 {
+        return 0;
+    }
+    ats[count - 1]
+}
+
+// Where the next transition stands; where there is none, past every instant.
+pub(crate) fn next_at(ats: &[u64], count: usize) -> u64
+    ensures { λ r. ⌜ r ≡ getD (now (ats .entry)) count 18446744073709551615 ⌝ }
+{
+    if count < ats.len() {
+        return ats[count];
+    }
+    0xffff_ffff_ffff_ffff
+}
+
+// How many of the transitions stand at or before an instant. A clock that changes twice a year has them nearly even, so that mostly the guess or
+// the number behind it is right.
+pub(crate) fn passed(ats: &[u64], t: u64) -> usize
+    ensures { λ r. ⌜ Passed (now (ats .entry)) t r ⌝ }
+{
+    let n = ats.len();
+    let even = guess(ats, t);
+    if even < n {
+        if (last_at(ats, even) <= t) & (t < next_at(ats, even + 1)) {
+            return bisected(ats, t, even, even + 1);
+        }
+    }
+    bisected(ats, t, 0, n)
 }
 
 // The offset once a number of the transitions have passed.

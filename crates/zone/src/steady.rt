@@ -1,12 +1,12 @@
 // Where no transition is near: one offset for readings and conversions alike.
 ghost use mathlib.Core.Path.{_≡_};
-ghost use lib.ListN.{getD};
 ghost use Rattle.zone.specs.Zone.{zoneOf};
 ghost use Rattle.zone.specs.Answers.{Valid};
 ghost use Rattle.zone.specs.Steady.{steadyOf, dayBy, midnightBy, OnWall, DayOnWall};
 use crate::DAY_NS;
 use crate::Instant;
 use crate::SECOND_NS;
+use crate::search::next_at;
 use crate::search::offset_after;
 use crate::search::passed;
 use calendar::Day;
@@ -25,16 +25,6 @@ const MARGIN_NS: u64 = DAY_NS + 2 * MOST_NS;
 const FIRST_STEADY: u64 = 7 * DAY_NS;
 
 const LAST_STEADY: u64 = 109_580 * DAY_NS;
-
-// Where the next transition stands; where there is none, past every instant.
-fn next_at(ats: &[u64], count: usize) -> u64
-    ensures { λ r. ⌜ r ≡ getD (now (ats .entry)) count 18446744073709551615 ⌝ }
-{
-    if count < ats.len() {
-        return ats[count];
-    }
-    0xffff_ffff_ffff_ffff
-}
 
 // The offset from 56 hours before one instant to 56 hours after another, if no transition stands there.
 pub fn steady_offset(first: u32, ats: &[u64], offsets: &[u32], from: Instant, to: Instant) -> Steady

@@ -1,62 +1,55 @@
-use Rattle.zone.proofs.Passing.{getD-within}
-use lib.ListN.{length, getD, List·getD-eq-default}
+use Rattle.zone.proofs.Passing.{between-all, between-one}
 use native.Mathlib.Omega.{arith}
-use native.Mathlib.Numerals.{add-one}
-use native.Mathlib.Nat.{le-refl}
-use Prim.Native.Nat.{_+_, _-_, _/_, _≤_, _<_, _^_}
-use mathlib.Core.Path.{_≡_}
-use mathlib.Core.List.{_∷_}
+use borrow.Author.Needs.{needs}
 use Rattle.zone.proofs.search.passed.Statement.{statement}
 use Rattle.zone.proofs.search.passed.Tie as tie
 
-abbrev Inv-loop : tie.InvT-loop
-Inv-loop ats t low₀ high₀ low high =
-    (low ≤ high) × (high ≤ length ats) × (getD (0 ∷ ats) low 0 ≤ t) × (t < getD ats high (2 ^ 64))
+guess-requires : tie.Need-guess-requires
+guess-requires c κs = search needs
 
-abbrev μ-loop : tie.MeasureT-loop
-μ-loop ats t low₀ high₀ low high = high - low
+last-at-requires : tie.Need-last-at-requires
+last-at-requires c κs = search needs
 
-loop-holds : tie.Need-loop-holds Inv-loop μ-loop
-loop-holds c =
-    let at-start = c in
-    let z = List·getD-eq-default ((at-start .args .ats) .now) (2 ^ 64) (le-refl (length ((at-start .args .ats) .now))) in
-    (omega arith, omega arith, omega arith, rw z (omega arith))
+add-next-at : tie.Need-add-next-at
+add-next-at c = search needs
 
-loop-again : tie.Need-loop-again Inv-loop μ-loop
-loop-again c =
-    let at-if1 = c in
-    let at-loop = at-if1 .before .before .before in
-    let m = (at-loop .loop .low) + ((at-loop .loop .high) - (at-loop .loop .low)) / 2 in
-    (omega arith, omega arith, rw (add-one m) (at-if1 .if1 .taken), (at-loop .loop .inv .3))
+next-at-requires : tie.Need-next-at-requires
+next-at-requires c κs = search needs
 
-loop-again-2 : tie.Need-loop-again-2 Inv-loop μ-loop
-loop-again-2 c =
-    let at-if1 = c in
-    let at-loop = at-if1 .before .before .before in
-    let at-start = at-loop .before in
-    let m = (at-loop .loop .low) + ((at-loop .loop .high) - (at-loop .loop .low)) / 2 in
-    (omega arith, omega arith, (at-loop .loop .inv .2), rw (getD-within ((at-start .args .ats) .now) m (2 ^ 64) 0 (omega arith)) (at-if1 .if1 .left))
+add-bisected : tie.Need-add-bisected
+add-bisected c = search needs
 
-returns : tie.Need-returns Inv-loop μ-loop
-returns c =
-    let at-loop = c .before in
-    let e : (at-loop .loop .high) ≡ (at-loop .loop .low) = omega arith in
-    record { most = omega arith; last = (at-loop .loop .inv .2); next = rw e at (at-loop .loop .inv .3) }
+bisected-requires : tie.Need-bisected-requires
+bisected-requires c κs =
+    let at-if2 = c in
+    let at-next-at = at-if2 .before in
+    let at-last-at = at-next-at .before in
+    let at-if1 = at-last-at .before in
+    let at-guess = at-if1 .before in
+    let at-start = at-guess .before .before in
+    between-one ((at-start .args .ats) .now) (at-start .args .t) (at-guess .guess .result) _ _ (at-if1 .if1 .taken) (at-last-at .last-at .ensures) (at-next-at .next-at .ensures) (at-if2 .if2 .taken)
+
+returns : tie.Need-returns
+returns c = search needs
+
+bisected-requires-2 : tie.Need-bisected-requires-2
+bisected-requires-2 c κs =
+    let at-start = c .before .before .before in
+    between-all ((at-start .args .ats) .now) (at-start .args .t) (omega (arith, at-start .fits .t))
+
+returns-2 : tie.Need-returns-2
+returns-2 c = search needs
 
 pub passed-spec : {M : Type 1} → statement M
 passed-spec =
     tie.close
     (tie.spec
-    Inv-loop
-    μ-loop
-    loop-holds
-    (λ c. omega arith)
-    (λ c. omega arith)
-    (λ c. omega arith)
-    (λ c. omega arith)
-    (λ c. omega arith)
-    (λ c. omega arith)
-    loop-again
-    (λ c. omega arith)
-    loop-again-2
-    returns)
+    guess-requires
+    last-at-requires
+    add-next-at
+    next-at-requires
+    add-bisected
+    bisected-requires
+    returns
+    bisected-requires-2
+    returns-2)

@@ -5,7 +5,8 @@ use Rattle.zone.specs.declared.steady.Steady.the-variants.{By}
 use Rattle.zone.specs.Steady.{marginNs}
 use Rattle.zone.specs.Zone.{zoneOf}
 use Rattle.zone.proofs.Offsets.{offset-passed}
-use Rattle.zone.proofs.Shifts.{steady-early, steady-late, steady-not, steady-by, none-true, none-false, next-near, next-far}
+use Rattle.zone.proofs.Passing.{next-far}
+use Rattle.zone.proofs.Shifts.{steady-early, steady-late, steady-not, steady-by, none-true, none-false, next-near}
 use borrow.Author.Needs.{needs}
 use Rattle.zone.proofs.steady.steady_offset.Statement.{statement}
 use Rattle.zone.proofs.steady.steady_offset.Tie as tie

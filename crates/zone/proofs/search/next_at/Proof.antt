@@ -2,8 +2,8 @@ use mathlib.Core.Path.{sym}
 use lib.ListN.{List·getD-eq-default}
 use Rattle.zone.proofs.Passing.{getD-within}
 use borrow.Author.Needs.{needs}
-use Rattle.zone.proofs.steady.next_at.Statement.{statement}
-use Rattle.zone.proofs.steady.next_at.Tie as tie
+use Rattle.zone.proofs.search.next_at.Statement.{statement}
+use Rattle.zone.proofs.search.next_at.Tie as tie
 
 mul-result : tie.Need-mul-result
 mul-result c = search needs
