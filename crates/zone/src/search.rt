@@ -10,9 +10,10 @@ ghost use Rattle.zone.specs.Answers.{Valid};
 ghost use Rattle.zone.specs.Private.{Between, Passed};
 use crate::Instant;
 
-// The guess is made of as many transitions as these, in units of some 4 seconds.
+// Fewer are bisected at once.
 const FEW: usize = 8;
 
+// Of more no guess is made: its product has to stay small.
 const MANY: usize = 4_096;
 
 const NEAR_NS: u64 = 0x1_0000_0000;
@@ -40,7 +41,7 @@ fn guess(ats: &[u64], t: u64) -> usize
     ensures { λ r. ⌜ r ≤ length (now (ats .entry)) ⌝ }
 {
     let n = ats.len();
-    if n < FEW {
+    if n == 0 {
         return 0;
     }
     if MANY < n {
@@ -81,9 +82,8 @@ pub(crate) fn next_at(ats: &[u64], count: usize) -> u64
     0xffff_ffff_ffff_ffff
 }
 
-// How many of the transitions stand at or before an instant. A clock that changes twice a year has them nearly even, so that mostly the guess or
-// the number behind it is right.
-pub(crate) fn passed(ats: &[u64], t: u64) -> usize
+// A clock that changes twice a year has them nearly even, so that mostly the guess or the number behind it is right.
+fn sought(ats: &[u64], t: u64) -> usize
     ensures { λ r. ⌜ Passed (now (ats .entry)) t r ⌝ }
 {
     let n = ats.len();
@@ -94,6 +94,17 @@ pub(crate) fn passed(ats: &[u64], t: u64) -> usize
         }
     }
     bisected(ats, t, 0, n)
+}
+
+// How many of the transitions stand at or before an instant.
+pub(crate) fn passed(ats: &[u64], t: u64) -> usize
+    ensures { λ r. ⌜ Passed (now (ats .entry)) t r ⌝ }
+{
+    let n = ats.len();
+    if n < FEW {
+        return bisected(ats, t, 0, n);
+    }
+    sought(ats, t)
 }
 
 // The offset once a number of the transitions have passed.
