@@ -18,12 +18,16 @@ use Rattle.wire.specs.Fields.{wrote, Put}
 use Rattle.events.specs.Happenings.{found, eventsIn as spanEvents}
 use Rattle.events.proofs.Order.{length-sorted}
 use Rattle.events.proofs.Few.{few}
-use Rattle.walk.specs.Walking.{ruleOf, pointOf, endEdge, shownPart, behind, Fits, rest, Stands, Begun, Comes, Found}
+use Rattle.walk.specs.Walking.{ruleOf, pointOf, endEdge, shownPart, behind, Fits, rest, Stands, Begun, Comes}
+use Rattle.walk.specs.Looking.{Looked, Shown as Looking·Shown, Leads, LeadsOn}
 use Rattle.walk.specs.declared.Walk.{Walk}
 use Rattle.walk.specs.declared.Piece.{Piece}
 use Rattle.walk.specs.declared.Pulled.{Pulled}
 use Rattle.walk.specs.declared.Pulled.the-variants.{Done, Next}
+use Rattle.walk.specs.declared.Turned.{Turned}
+use Rattle.walk.specs.declared.Turned.the-variants.{Done as Turned·Done, On}
 use Rattle.walk.proofs.Laws.{rest-length, rules-few}
+use Rattle.walk.proofs.Looking.{looked-shown, looked-comes}
 use Rattle.answer.specs.Forms.{encodeAll}
 use Rattle.answer.specs.declared.Phase.{Phase}
 use Rattle.tell.specs.Shown.{Shown, eventForm}
@@ -156,8 +160,8 @@ module _ (s : List ℕ) (first : ℕ) (ats offsets rules events : List ℕ) (hi 
               (t .behind ∙ ap (λ (a : ℕ). trail + 35 * a) (sym (many-found q)))
               (v ∙ ap (openedBy made b place) (u ∙ ap (pieceHead s z q) (m ∙ sym (many-found q))))
 
-      pub fewer : length (left (behind q)) < length (left w)
-      fewer = let l = ap length (come-left c) in omega arith
+      pub fewer : length (left (behind q)) + q .turns < length (left w) + w .turns
+      fewer = let l = ap length (come-left c) in omega (arith, l, c .turns)
 
   module _ (r : Ready s first ats offsets rules events) {lo : ℕ} {w : Walk} {a : List ℕ} (b : Begun s z (venueBy z g) 3659 lo w a) where
     abbrev target : List ℕ
@@ -174,11 +178,34 @@ module _ (s : List ℕ) (first : ℕ) (ats offsets rules events : List ℕ) (hi 
     walk-put {room} {at} {now} {now1} {made} {place} i e c =
         rw target-is (write-end made (subst (λ (l : List (Span Shown)). Writing room at (bytesOf (joined phases (left w))) now made place l) e i) c)
 
-  pub come : (w : Walk) (r : Pulled) {q : Piece} (a : List ℕ) → Found s z (venueBy z g) hi w r a → r ≡ Next q → Comes s z (venueBy z g) hi w q a
-  come w r a f e = subst (λ (x : Pulled). Found s z (venueBy z g) hi w x a) e f
+  -- ---- a step: a piece of the date at hand, or the next turn
 
-  pub gone : (w : Walk) (r : Pulled) (a : List ℕ) → Found s z (venueBy z g) hi w r a → r ≡ Done → left w ≡ []
-  gone w r a f e = done-left w (subst (λ (x : Pulled). Found s z (venueBy z g) hi w x a) e f)
+  module _ (r : Ready s first ats offsets rules events) (w : Walk) (p : Pulled) (a : List ℕ) (h : Stands s z w a) (l : Looked s a hi w p) where
+    pub come : {q : Piece} → p ≡ Next q → Comes s z (venueBy z g) hi w q a
+    come e = looked-comes first ats offsets (r .zone) s (venueBy z g) hi w a h (subst (Looked s a hi w) e l)
+
+    pub shown : p ≡ Done → Looking·Shown s z hi w
+    shown e = looked-shown first ats offsets (r .zone) s (venueBy z g) hi w a h (subst (Looked s a hi w) e l)
+
+  module _ (w : Walk) (t : Turned) (a : List ℕ) (l : Leads s z (venueBy z g) hi w t a) where
+    pub gone : t ≡ Turned·Done → left w ≡ []
+    gone e = done-left w (subst (λ (x : Turned). Leads s z (venueBy z g) hi w x a) e l)
+
+    pub turned : {w′ : Walk} → t ≡ On w′ → LeadsOn s z (venueBy z g) hi w w′ a
+    turned e = subst (λ (x : Turned). Leads s z (venueBy z g) hi w x a) e l
+
+  module _ {w w′ : Walk} {a : List ℕ} (l : LeadsOn s z (venueBy z g) hi w w′ a) where
+    turn-left : left w ≡ left w′
+    turn-left = ap (map (showsSpan z es)) (l .same)
+
+    pub turn-fewer : length (left w′) + w′ .turns < length (left w) + w .turns
+    turn-fewer = let m = ap length turn-left in omega (arith, m, l .fewer)
+
+    pub turn-sized : {total size : ℕ} {last : Last} → Sizing total last size (left w) → Sizing total last size (left w′)
+    turn-sized {total} {size} {last} i = subst (λ (x : List (Span Shown)). Sizing total last size x) turn-left i
+
+    pub turn-written : {room : List ℕ} {at : ℕ} {target now : List ℕ} {made : Open} {place : ℕ} → Writing room at target now made place (left w) → Writing room at target now made place (left w′)
+    turn-written {room} {at} {target} {now} {made} {place} i = subst (λ (x : List (Span Shown)). Writing room at target now made place x) turn-left i
 
   -- ---- the walk goes on from where it stands
 
@@ -186,8 +213,8 @@ module _ (s : List ℕ) (first : ℕ) (ats offsets rules events : List ℕ) (hi 
     pub stands-on : {a : List ℕ} → Stands s z w a → Stands s z w′ a
     stands-on {a} h = subst (λ (x : Walk). Stands s z x a) (sym e) h
 
-    pub fewer-on : {n : ℕ} → length (left w) < n → length (left w′) < n
-    fewer-on {n} h = subst (λ (x : Walk). length (left x) < n) (sym e) h
+    pub fewer-on : {n : ℕ} → length (left w) + w .turns < n → length (left w′) + w′ .turns < n
+    fewer-on {n} h = subst (λ (x : Walk). length (left x) + x .turns < n) (sym e) h
 
     pub sized-on : {total size : ℕ} {last : Last} → Sizing total last size (left w) → Sizing total last size (left w′)
     sized-on {total} {size} {last} h = subst (λ (x : Walk). Sizing total last size (left x)) (sym e) h

@@ -30,10 +30,12 @@ use walk::MOST_KEPT;
 use walk::MOST_TURNS;
 use walk::Piece;
 use walk::Pulled;
+use walk::Turned;
 use walk::begin;
 use walk::behind;
-use walk::pull;
+use walk::here;
 use walk::segment;
+use walk::turn_on;
 use zone::Boundary;
 use zone::Instant;
 use zone::Uncertainty;
@@ -165,7 +167,7 @@ pub fn put_walk(
 {
     let mut kept = [0u32; MOST_KEPT];
     let mut edges = [0u64; MOST_BOUNDARIES];
-    let mut w = begin(
+    let opening = begin(
         book,
         first,
         ats,
@@ -176,23 +178,14 @@ pub fn put_walk(
         MOST_TURNS - 1,
         lo,
     );
+    // A copy, whose fields the loop can hold in registers: the place that `begin` fills stays in memory.
+    let mut w = opening;
     let mut head = blank();
     let mut begun = false;
     let mut stand = at;
     let mut place = at;
     'pieces: loop {
-        match pull(
-            book,
-            first,
-            ats,
-            offsets,
-            rules,
-            &mut kept,
-            &mut edges,
-            hi,
-            w,
-        ) {
-            Pulled::Done => break 'pieces,
+        match here(book, &edges, hi, w) {
             Pulled::Next(q) => {
                 let from = q.from;
                 let start = q.start;
@@ -215,6 +208,22 @@ pub fn put_walk(
                 place = done;
                 w = behind(q);
             }
+            Pulled::Done => match turn_on(
+                book,
+                first,
+                ats,
+                offsets,
+                rules,
+                &mut kept,
+                &mut edges,
+                hi,
+                w,
+            ) {
+                Turned::Done => break 'pieces,
+                Turned::On(next) => {
+                    w = next;
+                }
+            },
         }
     }
     close(out, begun, stand, head);

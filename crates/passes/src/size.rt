@@ -17,9 +17,11 @@ use walk::MOST_BOUNDARIES;
 use walk::MOST_KEPT;
 use walk::MOST_TURNS;
 use walk::Pulled;
+use walk::Turned;
 use walk::begin;
 use walk::behind;
-use walk::pull;
+use walk::here;
+use walk::turn_on;
 use zone::Instant;
 
 // A span that joins the one before takes no record of its own.
@@ -45,7 +47,7 @@ pub fn walk_size(
 {
     let mut kept = [0u32; MOST_KEPT];
     let mut edges = [0u64; MOST_BOUNDARIES];
-    let mut w = begin(
+    let opening = begin(
         book,
         first,
         ats,
@@ -56,21 +58,12 @@ pub fn walk_size(
         MOST_TURNS - 1,
         lo,
     );
+    // A copy, whose fields the loop can hold in registers: the place that `begin` fills stays in memory.
+    let mut w = opening;
     let mut last = Last::Nothing;
     let mut size: usize = 0;
     'pieces: loop {
-        match pull(
-            book,
-            first,
-            ats,
-            offsets,
-            rules,
-            &mut kept,
-            &mut edges,
-            hi,
-            w,
-        ) {
-            Pulled::Done => break 'pieces,
+        match here(book, &edges, hi, w) {
             Pulled::Next(q) => {
                 let from = q.from;
                 let to = q.to;
@@ -85,6 +78,22 @@ pub fn walk_size(
                 last = Last::Shows(to, phase, evidence);
                 w = behind(q);
             }
+            Pulled::Done => match turn_on(
+                book,
+                first,
+                ats,
+                offsets,
+                rules,
+                &mut kept,
+                &mut edges,
+                hi,
+                w,
+            ) {
+                Turned::Done => break 'pieces,
+                Turned::On(next) => {
+                    w = next;
+                }
+            },
         }
     }
     size

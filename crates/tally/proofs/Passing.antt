@@ -8,6 +8,7 @@ use native.Mathlib.Decide.{decLe}
 use lib.ListN.{length}
 use Rattle.wire.specs.Fields.{Inside, Put}
 use Rattle.zone.specs.Zone.{Zone, zoneOf}
+use Rattle.zone.specs.Answers.{Valid}
 use Rattle.records.specs.Records.{Rule, ruleAt}
 use Rattle.spans.specs.Spans.{Mark, phase, unknown, Span, Within}
 use Rattle.spans.specs.Timeline.{turns, walk}
@@ -17,11 +18,15 @@ use Rattle.day.specs.Governing.{governing}
 use Rattle.day.specs.Days.{Values, Held, venueBy, venueOf}
 use Rattle.day.specs.Meaning.{valuesAt}
 use Rattle.venue.specs.declared.opened.Header.{Header}
-use Rattle.walk.specs.Walking.{ruleOf, pointOf, behind, rest, Stands, Begun, Comes, Found}
+use Rattle.walk.specs.Walking.{ruleOf, pointOf, behind, rest, Stands, Begun, Comes}
+use Rattle.walk.specs.Looking.{Looked, Shown, Leads, LeadsOn}
 use Rattle.walk.specs.declared.Walk.{Walk}
 use Rattle.walk.specs.declared.Piece.{Piece}
 use Rattle.walk.specs.declared.Pulled.{Pulled}
 use Rattle.walk.specs.declared.Pulled.the-variants.{Done, Next}
+use Rattle.walk.specs.declared.Turned.{Turned}
+use Rattle.walk.specs.declared.Turned.the-variants.{Done as Turned·Done, On}
+use Rattle.walk.proofs.Looking.{looked-shown, looked-comes}
 use Rattle.answer.specs.Forms.{encodeAll}
 use Rattle.tally.specs.Tallying.{rowsOf}
 use Rattle.tally.specs.Private.{stretchOf, heldMark, rawBlank, rawOf, rawForms, Slot, Ahead, Ordered, Standing, Coming, Counted, Ending, Ended, First}
@@ -101,11 +106,20 @@ module _ (s : List ℕ) (first : ℕ) (ats offsets rules : List ℕ) (hi : ℕ) 
   pub stands-on : {w w′ : Walk} → w′ ≡ w → {a : List ℕ} → Stands s z w a → Stands s z w′ a
   stands-on e {a} h = subst (λ (x : Walk). Stands s z x a) (sym e) h
 
-  pub come : (w : Walk) (r : Pulled) {q : Piece} (a : List ℕ) → Found s z (venueBy z g) hi w r a → r ≡ Next q → Comes s z (venueBy z g) hi w q a
-  come w r a f e = subst (λ (x : Pulled). Found s z (venueBy z g) hi w x a) e f
+  -- a step: a piece of the date at hand, or the next turn
+  module _ (good : Valid first ats offsets) (w : Walk) (p : Pulled) (a : List ℕ) (h : Stands s z w a) (l : Looked s a hi w p) where
+    pub come : {q : Piece} → p ≡ Next q → Comes s z (venueBy z g) hi w q a
+    come e = looked-comes first ats offsets good s (venueBy z g) hi w a h (subst (Looked s a hi w) e l)
 
-  pub gone : (w : Walk) (r : Pulled) (a : List ℕ) → Found s z (venueBy z g) hi w r a → r ≡ Done → pieces w ≡ []
-  gone w r a f e = ap (map heldMark) (subst (λ (x : Pulled). Found s z (venueBy z g) hi w x a) e f)
+    pub shown : p ≡ Done → Shown s z hi w
+    shown e = looked-shown first ats offsets good s (venueBy z g) hi w a h (subst (Looked s a hi w) e l)
+
+  module _ (w : Walk) (t : Turned) (a : List ℕ) (l : Leads s z (venueBy z g) hi w t a) where
+    pub gone : t ≡ Turned·Done → pieces w ≡ []
+    gone e = ap (map heldMark) (subst (λ (x : Turned). Leads s z (venueBy z g) hi w x a) e l)
+
+    pub turned : {w′ : Walk} → t ≡ On w′ → LeadsOn s z (venueBy z g) hi w w′ a
+    turned e = subst (λ (x : Turned). Leads s z (venueBy z g) hi w x a) e l
 
   abbrev pub markOf : Piece → Mark
   markOf q = phase (pointOf s q (q .point) .phase) (ruleOf s q .evidence)
@@ -147,8 +161,26 @@ module _ (s : List ℕ) (first : ℕ) (ats offsets rules : List ℕ) (hi : ℕ) 
             kept = k .kept ∙ r .kept;
           }
 
-      pub walked-less : {w2 : Walk} → w2 ≡ behind q → length (pieces w2) < length (pieces w1)
-      walked-less i = let l = ap length (come-first c) in let m = ap (λ (x : Walk). length (pieces x)) i in omega arith
+      pub walked-less : {w2 : Walk} → w2 ≡ behind q → length (pieces w2) + w2 .turns < length (pieces w1) + w1 .turns
+      walked-less i =
+          let l = ap length (come-first c) in
+          let m = ap (λ (x : Walk). length (pieces x)) i in
+          let n : _ ≡ q .turns = ap (λ (x : Walk). x .turns) i in
+          omega (arith, l, m, n, c .turns)
+
+    module _ {w2 : Walk} {a : List ℕ} (l : LeadsOn s z (venueBy z g) hi w1 w2 a) where
+      turn-pieces : pieces w1 ≡ pieces w2
+      turn-pieces = ap (map heldMark) (l .same)
+
+      pub turn-walked : Walked start end w now p row whole w2 now1 p1 row1 whole1
+      turn-walked =
+          record {
+            on = λ all last room x. subst (λ (y : List (Span Mark)). Standing all (y ++ last) start end room now1 p1 row1 whole1) turn-pieces (r .on all last room x);
+            kept = r .kept;
+          }
+
+      pub turn-less : length (pieces w2) + w2 .turns < length (pieces w1) + w1 .turns
+      turn-less = let m = ap length turn-pieces in omega (arith, m, l .fewer)
 
     -- the walk is done
     module _ (done : pieces w1 ≡ []) {after : ℕ} {all : List (Span Mark)} {room : List ℕ}

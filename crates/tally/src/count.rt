@@ -29,7 +29,7 @@ fn part(a: u64, b: u64, from: u64, to: u64) -> u64
 }
 
 // A row as it begins.
-pub fn renew(row: &mut [u64; SLOTS], length: u64)
+pub(crate) fn renew(row: &mut [u64; SLOTS], length: u64)
     ensures { λ r. ⌜ now (row .exit) ≡ fresh length ⌝ }
 {
     *row = [0; SLOTS];
@@ -48,7 +48,7 @@ fn shift(row: &mut [u64; SLOTS], slot: usize, n: u64)
 }
 
 // Counts a stretch in the closing totals and in the rows that it meets. A row that ends inside the stretch or before it is written and the next begins.
-pub fn stretch(
+pub(crate) fn stretch(
     out: &mut [u8],
     page: Page,
     start: Instant,
@@ -85,7 +85,7 @@ pub fn stretch(
 }
 
 // Closes the rows that are left, and writes the closing total. Answers the place behind it.
-pub fn finish(
+pub(crate) fn finish(
     out: &mut [u8],
     page: Page,
     start: Instant,

@@ -8,7 +8,7 @@ use answer::ROW_BYTES;
 pub const DAY_NS: u64 = 86_400_000_000_000;
 
 // The next row edge after `at`. Sizing and rows both ask here.
-pub fn row_end(end: u64, at: u64) -> u64
+pub(crate) fn row_end(end: u64, at: u64) -> u64
     ensures { λ r. ⌜ r ≡ rowEnd end at ⌝ }
 {
     if end < at {
@@ -32,7 +32,7 @@ fn count_rows(start: u64, end: u64) -> usize
 }
 
 // How many bytes its rows and the closing total take.
-pub fn tally_size(start: u64, end: u64) -> usize
+pub(crate) fn tally_size(start: u64, end: u64) -> usize
     requires { ⌜ end ≤ start + mostNs ⌝ }
     ensures { λ r. ⌜ r ≡ 100 * (length (rowsOf start end) + 1) ⌝ }
 {

@@ -22,9 +22,11 @@ use walk::MOST_BOUNDARIES;
 use walk::MOST_KEPT;
 use walk::MOST_TURNS;
 use walk::Pulled;
+use walk::Turned;
 use walk::begin;
 use walk::behind;
-use walk::pull;
+use walk::here;
+use walk::turn_on;
 use zone::Instant;
 
 // The first row.
@@ -48,7 +50,7 @@ fn first_page(
 }
 
 // A venue without data.
-pub fn put_blank(start: Instant, end: Instant, out: &mut [u8]) -> usize
+pub(crate) fn put_blank(start: Instant, end: Instant, out: &mut [u8]) -> usize
     requires { ⌜ (start .0 < end .0) × Inside 0 (100 * (length (rowsOf (start .0) (end .0)) + 1)) (now out) ⌝ }
     ensures { λ r. ⌜ Put (now (out .entry)) 0 (encodeAll (rawForms (rawBlank (start .0) (end .0)) (start .0) (end .0))) r (now (out .exit)) r ⌝ }
 {
@@ -70,7 +72,7 @@ pub fn put_blank(start: Instant, end: Instant, out: &mut [u8]) -> usize
 }
 
 // Of an opened book.
-pub fn put_tallies(
+pub(crate) fn put_tallies(
     book: &[u8],
     h: Header,
     ats: &[u64],
@@ -110,7 +112,7 @@ pub fn put_tallies(
     );
     let mut kept = [0u32; MOST_KEPT];
     let mut edges = [0u64; MOST_BOUNDARIES];
-    let mut w = begin(
+    let opening = begin(
         book,
         first,
         ats,
@@ -121,19 +123,10 @@ pub fn put_tallies(
         MOST_TURNS - 1,
         lo,
     );
+    // A copy, whose fields the loop can hold in registers: the place that `begin` fills stays in memory.
+    let mut w = opening;
     'pieces: loop {
-        match pull(
-            book,
-            first,
-            ats,
-            offsets,
-            rules,
-            &mut kept,
-            &mut edges,
-            hi,
-            w,
-        ) {
-            Pulled::Done => break 'pieces,
+        match here(book, &edges, hi, w) {
             Pulled::Next(q) => {
                 let from = q.from;
                 let to = q.to;
@@ -151,6 +144,22 @@ pub fn put_tallies(
                 );
                 w = behind(q);
             }
+            Pulled::Done => match turn_on(
+                book,
+                first,
+                ats,
+                offsets,
+                rules,
+                &mut kept,
+                &mut edges,
+                hi,
+                w,
+            ) {
+                Turned::Done => break 'pieces,
+                Turned::On(next) => {
+                    w = next;
+                }
+            },
         }
     }
     let last = stretch(

@@ -2,6 +2,7 @@ pub mod Edges
 pub mod Filling
 pub mod Keeping
 pub mod Laws
+pub mod Looking
 pub mod Near
 pub mod Pieces
 pub mod Rest

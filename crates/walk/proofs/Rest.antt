@@ -223,51 +223,56 @@ module _ (first : ℕ) (ats os : List ℕ) (good : Valid first ats os) (s : List
                 ∙ rest-first v hi w (shownPart s z piece) (clip to hi (left z r d (k + 1))) (By p) (k + 1) (w .calm) (omega arith);
             fits = record { listed = kept-by .0; point = omega arith; shows = apart; short = omega (arith, start-is, end-is, short first ats os good r d (omega arith) k (omega arith)); calm = λ i. calm-span s z piece (omega arith) (kept-by .3 i) };
             stands = record { kept = (kept-by .0, omega arith, kept-by .2, kept-by .3); forward = omega arith };
+            turns = refl;
           }
 
 -- ---- a turn that shows no more
 
-module _ (s : List ℕ) (z : Zone) (v : Venue Held) (hi : ℕ) (w : Walk) (hidden : clip (w .cursor .0) hi (onDate s z (w .date .0) (w .next) (w .governed)) ≡ []) where
-  leads-on : rest s z v hi w ≡ cond (ltb (w .began .0) (onward v hi (w .began .0) (w .cursor .0) (w .date .0))) (walk v hi (w .turns) (onward v hi (w .began .0) (w .cursor .0) (w .date .0))) []
-  unfolding rest reach
-  leads-on = ap (restWith v hi w) hidden
+-- what is left then
+abbrev pub leading : Venue Held → ℕ → ℕ → ℕ → ℕ → ℕ → List (Span Held)
+leading v hi turns began cursor date = let next = onward v hi began cursor date in cond (ltb began next) (walk v hi turns next) []
 
-  module _ (next : ℕ) (e : next ≡ onward v hi (w .began .0) (w .cursor .0) (w .date .0)) where
-    leads : rest s z v hi w ≡ cond (ltb (w .began .0) next) (walk v hi (w .turns) next) []
-    leads = leads-on ∙ ap (λ (i : ℕ). cond (ltb (w .began .0) i) (walk v hi (w .turns) i) []) (sym e)
+pub leads : (s : List ℕ) (z : Zone) (v : Venue Held) (hi : ℕ) (w : Walk) → clip (w .cursor .0) hi (onDate s z (w .date .0) (w .next) (w .governed)) ≡ []
+    → rest s z v hi w ≡ leading v hi (w .turns) (w .began .0) (w .cursor .0) (w .date .0)
+unfolding rest reach
+leads s z v hi w hidden = ap (restWith v hi w) hidden
 
-    pub more : (leb next (w .began .0) || eqb (w .turns) 0) ≡ false → (w .began .0 < next) × (0 < w .turns)
-    more h = go (leb next (w .began .0)) refl (eqb (w .turns) 0) refl h
-      where
-        go : (p : Bool) → leb next (w .began .0) ≡ p → (q : Bool) → eqb (w .turns) 0 ≡ q → (p || q) ≡ false → (w .began .0 < next) × (0 < w .turns)
-        go true x q y i = let n : _≡_ {A = ℕ} 0 1 = cc in absurd (omega arith)
-        go false x true y i = let n : _≡_ {A = ℕ} 0 1 = cc in absurd (omega arith)
-        go false x false y i = (leb-false next (w .began .0) x, positive (w .turns) (eqb-false (w .turns) 0 y))
-          where
-            positive : (t : ℕ) → (t ≡ 0 → ⊥) → 0 < t
-            positive t f = omega (arith, f)
+module _ (v : Venue Held) (hi turns began cursor date next : ℕ) (e : next ≡ onward v hi began cursor date) where
+  leads-to : leading v hi turns began cursor date ≡ cond (ltb began next) (walk v hi turns next) []
+  leads-to = ap (λ (i : ℕ). cond (ltb began i) (walk v hi turns i) []) (sym e)
 
-    -- to where the walk ends
-    pub ends : (leb next (w .began .0) || eqb (w .turns) 0) ≡ true → rest s z v hi w ≡ []
-    unfolding walk
-    ends h = leads ∙ go (leb next (w .began .0)) refl (eqb (w .turns) 0) refl h
-      where
-        go : (p : Bool) → leb next (w .began .0) ≡ p → (q : Bool) → eqb (w .turns) 0 ≡ q → (p || q) ≡ true → cond (ltb (w .began .0) next) (walk v hi (w .turns) next) [] ≡ []
-        go true x q y i = let o = le-ltb (w .began .0) next (leb-true next (w .began .0) x) in rw o
-        go false x true y i = ap (λ (m : ℕ). cond (ltb (w .began .0) next) (walk v hi m next) []) (eqb-true (w .turns) 0 y) ∙ same (ltb (w .began .0) next)
-          where
-            same : (b : Bool) → _≡_ {A = List (Span Held)} (cond b [] []) []
-            same true = refl
-            same false = refl
-        go false x false y i = let n : _≡_ {A = ℕ} 0 1 = cc in absurd (omega arith)
+  pub more : (leb next began || eqb turns 0) ≡ false → (began < next) × (0 < turns)
+  more h = go (leb next began) refl (eqb turns 0) refl h
+    where
+      go : (p : Bool) → leb next began ≡ p → (q : Bool) → eqb turns 0 ≡ q → (p || q) ≡ false → (began < next) × (0 < turns)
+      go true x q y i = let n : _≡_ {A = ℕ} 0 1 = cc in absurd (omega arith)
+      go false x true y i = let n : _≡_ {A = ℕ} 0 1 = cc in absurd (omega arith)
+      go false x false y i = (leb-false next began x, positive turns (eqb-false turns 0 y))
+        where
+          positive : (t : ℕ) → (t ≡ 0 → ⊥) → 0 < t
+          positive t f = omega (arith, f)
 
-    -- to where the next turn begins
-    pub goes : (leb next (w .began .0) || eqb (w .turns) 0) ≡ false → (w′ : Walk) → rest s z v hi w′ ≡ walk v hi (suc (w .turns - 1)) next → rest s z v hi w ≡ rest s z v hi w′
-    goes h w′ f =
-        let t = more h in
-        let o = lt-ltb (w .began .0) next (t .0) in
-        let m : w .turns ≡ suc (w .turns - 1) = omega arith in
-        leads ∙ ap₂ (λ (b : Bool) (i : ℕ). cond b (walk v hi i next) []) o m ∙ sym f
+  -- to where the walk ends
+  pub ends : (leb next began || eqb turns 0) ≡ true → leading v hi turns began cursor date ≡ []
+  unfolding walk
+  ends h = leads-to ∙ go (leb next began) refl (eqb turns 0) refl h
+    where
+      go : (p : Bool) → leb next began ≡ p → (q : Bool) → eqb turns 0 ≡ q → (p || q) ≡ true → cond (ltb began next) (walk v hi turns next) [] ≡ []
+      go true x q y i = let o = le-ltb began next (leb-true next began x) in rw o
+      go false x true y i = ap (λ (m : ℕ). cond (ltb began next) (walk v hi m next) []) (eqb-true turns 0 y) ∙ same (ltb began next)
+        where
+          same : (b : Bool) → _≡_ {A = List (Span Held)} (cond b [] []) []
+          same true = refl
+          same false = refl
+      go false x false y i = let n : _≡_ {A = ℕ} 0 1 = cc in absurd (omega arith)
+
+  -- to where the next turn begins
+  pub goes : (leb next began || eqb turns 0) ≡ false → leading v hi turns began cursor date ≡ walk v hi (suc (turns - 1)) next
+  goes h =
+      let t = more h in
+      let o = lt-ltb began next (t .0) in
+      let m : turns ≡ suc (turns - 1) = omega arith in
+      leads-to ∙ ap₂ (λ (b : Bool) (i : ℕ). cond b (walk v hi i next) []) o m
 
 -- ---- a turn begins
 
@@ -313,24 +318,6 @@ module _ (s : List ℕ) (z : Zone) (g : ℕ → Option Rule) (t : ℕ) (c : Inst
             ∙ sym (turn-any (venueBy z g) hi t (c .0));
       }
 
--- ---- the loop over the turns
-
--- it stands at w, and as much is left as at the start
-pub record Turning (s : List ℕ) (z : Zone) (v : Venue Held) (hi : ℕ) (start w : Walk) (a : List ℕ) : Type 0 where
-  pub stands : Stands s z w a
-  pub same : rest s z v hi start ≡ rest s z v hi w
-
-pub comes-from : {s : List ℕ} {z : Zone} {v : Venue Held} {hi : ℕ} {start w : Walk} {q : Piece} {a : List ℕ} → rest s z v hi start ≡ rest s z v hi w → Comes s z v hi w q a
-    → Comes s z v hi start q a
-comes-from e c = record { first = e ∙ c .first; fits = c .fits; stands = c .stands }
-
 pub nothing-shows : (s : List ℕ) (z : Zone) (hi : ℕ) (w : Walk) → w .governed ≡ Nothing → clip (w .cursor .0) hi (onDate s z (w .date .0) (w .next) (w .governed)) ≡ []
 unfolding clip
 nothing-shows s z hi w e = ap (λ (g : Governed). clip (w .cursor .0) hi (onDate s z (w .date .0) (w .next) g)) e
-
-module _ {s : List ℕ} {z : Zone} {w : Walk} {a : List ℕ} {p : ℕ} (h : Stands s z w a) (e : w .governed ≡ By p) where
-  pub rule-listed : Listed 3 s p
-  rule-listed = subst (λ (g : Governed). Kept s z (w .date .0) (w .next) (w .calm) g a) e (h .kept) .0
-
-  pub next-most : w .next ≤ length (ruleAt s p .points)
-  next-most = subst (λ (g : Governed). Kept s z (w .date .0) (w .next) (w .calm) g a) e (h .kept) .1

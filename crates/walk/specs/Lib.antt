@@ -1,4 +1,5 @@
 pub mod Walking
+pub mod Looking
 pub mod Keeping
 pub mod Shifting
 pub mod AsWritten

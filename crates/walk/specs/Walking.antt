@@ -21,8 +21,6 @@ use Rattle.day.specs.declared.Governed.{Governed}
 use Rattle.day.specs.declared.Governed.the-variants.{Nothing, By}
 use Rattle.walk.specs.declared.Walk.{Walk}
 use Rattle.walk.specs.declared.Piece.{Piece}
-use Rattle.walk.specs.declared.Pulled.{Pulled}
-use Rattle.walk.specs.declared.Pulled.the-variants.{Done, Next}
 
 -- ---- a date's boundaries
 
@@ -170,13 +168,10 @@ pub record Begun (s : List ℕ) (z : Zone) (v : Venue Held) (turns cursor : ℕ)
   pub stands : Stands s z w a
   pub all : (hi : ℕ) → rest s z v hi w ≡ walk v hi (suc turns) cursor
 
--- ---- a step of the walk: nothing is left, or a piece comes first and the walk stands behind it
+-- ---- a step of the walk: a piece comes first, and the walk stands behind it, with as many turns to go
 
 pub record Comes (s : List ℕ) (z : Zone) (v : Venue Held) (hi : ℕ) (w : Walk) (q : Piece) (a : List ℕ) : Type 0 where
   pub first : rest s z v hi w ≡ shownPart s z q ∷ rest s z v hi (behind q)
   pub fits : Fits s z q
   pub stands : Stands s z (behind q) a
-
-abbrev pub Found : List ℕ → Zone → Venue Held → ℕ → Walk → Pulled → List ℕ → Type 0
-Found s z v hi w Done a = rest s z v hi w ≡ []
-Found s z v hi w (Next q) a = Comes s z v hi w q a
+  pub turns : q .turns ≡ w .turns

@@ -40,7 +40,7 @@ fn keep(book: &[u8], rules: &[u32], d: Day, kept: &mut [u32])
 }
 
 // The rule that governs a date, as `governing`. Of more rules than a book may have, none are kept and all are looked at.
-pub fn governing_near(book: &[u8], rules: &[u32], d: Day, kept: &mut [u32]) -> Governed
+pub(crate) fn governing_near(book: &[u8], rules: &[u32], d: Day, kept: &mut [u32]) -> Governed
     requires { ⌜ AllListed 3 (now book) (now rules) × Keeps (now book) (now rules) (now kept) × (3 + base .rules ≤ length (now kept)) × (d .0 < 131072) ⌝ }
     ensures { λ r. ⌜ (ruled (now (book .entry)) r ≡ Governing·governing (map (ruleAt (now (book .entry))) (now (rules .entry))) (d .0))
         × Stands (now (book .entry)) r × Keeps (now (book .entry)) (now (rules .entry)) (now (kept .exit)) ⌝ }

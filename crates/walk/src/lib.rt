@@ -8,8 +8,9 @@ mod turn;
 use calendar::Day;
 use day::Governed;
 pub use step::behind;
-pub use step::pull;
+pub use step::here;
 pub use step::segment;
+pub use step::turn_on;
 pub use turn::begin;
 use zone::Instant;
 
@@ -49,8 +50,14 @@ pub struct Piece {
     pub began: Instant,
 }
 
-// The next piece of a walk.
+// The next piece of the date at hand.
 pub enum Pulled {
     Done,
     Next(Piece),
+}
+
+// The next turn of a walk.
+pub enum Turned {
+    Done,
+    On(Walk),
 }

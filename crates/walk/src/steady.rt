@@ -14,7 +14,7 @@ use zone::Instant;
 const DAY_NS: u64 = 86_400_000_000_000;
 
 // Stores the instants of the boundaries of a date that begins at `midnight`, by the rule at a place.
-pub fn steady_boundaries(book: &[u8], rule: u32, midnight: Instant, edges: &mut [u64])
+pub(crate) fn steady_boundaries(book: &[u8], rule: u32, midnight: Instant, edges: &mut [u64])
     requires { ⌜ Listed 3 (now book) rule × (base .points < length (now edges)) × (midnight .0 + dayNs < 18446744073709551616) ⌝ }
     ensures { λ r. ⌜ ShiftedIn (ruleAt (now (book .entry)) rule) (midnight .0) (now (edges .entry)) (now (edges .exit)) ⌝ }
 {

@@ -1,4 +1,5 @@
-// The next piece of a walk. The passes over a walk that size, write and count all take their steps here.
+// A step of a walk: to the next piece of the date at hand, or where it shows no more to the next turn. The passes over a walk that size,
+// write and count all take their steps by these two; the first is small, and most steps take no more.
 ghost use mathlib.Core.Path.{_≡_};
 ghost use mathlib.Core.List.{map};
 ghost use mathlib.Core.Option.{none};
@@ -11,12 +12,14 @@ ghost use Rattle.day.specs.Governing.{governing as Governing·governing};
 ghost use Rattle.day.specs.Days.{venueBy};
 ghost use Rattle.day.specs.Meaning.{heldBy};
 ghost use Rattle.venue.specs.Reading.{AllListed};
-ghost use Rattle.walk.specs.Walking.{onward as Walking·onward, behind as Walking·behind, Stands, Fits, heldIn, Showing, Found};
+ghost use Rattle.walk.specs.Walking.{onward as Walking·onward, behind as Walking·behind, Fits, heldIn, Showing};
+ghost use Rattle.walk.specs.Looking.{Holds, Looked, Shown, Leads};
 ghost use Rattle.walk.specs.Keeping.{Keeps};
 use crate::MOST_BOUNDARIES;
 use crate::MOST_KEPT;
 use crate::Piece;
 use crate::Pulled;
+use crate::Turned;
 use crate::Walk;
 use crate::turn::begin;
 use calendar::Day;
@@ -70,8 +73,43 @@ fn onward(
     Instant(earlier(hi.0, at.0))
 }
 
-// What the walk stands on is kept field by field: a struct that is copied whole costs more than the step.
-pub fn pull(
+// The first span of the date at hand that shows; `Done` where none does.
+pub fn here(book: &[u8], edges: &[u64; MOST_BOUNDARIES], hi: Instant, w: Walk) -> Pulled
+    requires { ⌜ Holds (now book) w ⌝ }
+    ensures { λ r. ⌜ Looked (now (book .entry)) (now (edges .entry)) (hi .0) w r ⌝ }
+{
+    let governed = w.governed;
+    match governed {
+        Governed::Nothing => Pulled::Done,
+        Governed::By(rule) => {
+            let cursor = w.cursor;
+            let n = rule_points(book, rule as usize);
+            let k = showing(edges, w.next, n, cursor, hi);
+            if n <= k {
+                return Pulled::Done;
+            }
+            let start = edges[k];
+            let end = edges[k + 1];
+            let date = w.date;
+            let began = w.began;
+            Pulled::Next(Piece {
+                from: Instant(later(cursor.0, start)),
+                to: Instant(earlier(hi.0, end)),
+                start: Instant(start),
+                end: Instant(end),
+                date,
+                rule,
+                point: k,
+                calm: w.calm,
+                turns: w.turns,
+                began,
+            })
+        }
+    }
+}
+
+// The next turn of a walk whose date shows no more.
+pub fn turn_on(
     book: &[u8],
     first: u32,
     ats: &[u64],
@@ -80,69 +118,33 @@ pub fn pull(
     kept: &mut [u32; MOST_KEPT],
     edges: &mut [u64; MOST_BOUNDARIES],
     hi: Instant,
-    from: Walk,
-) -> Pulled
+    w: Walk,
+) -> Turned
     requires { ⌜ Valid first (now ats) (now offsets) × AllListed 3 (now book) (now rules) × Keeps (now book) (now rules) (now kept)
-        × Stands (now book) (zoneOf first (now ats) (now offsets)) from (now edges) ⌝ }
-    ensures { λ r. ⌜ Found (now (book .entry)) (zoneOf first (now (ats .entry)) (now (offsets .entry)))
-        (venueBy (zoneOf first (now (ats .entry)) (now (offsets .entry))) (Governing·governing (map (ruleAt (now (book .entry))) (now (rules .entry))))) (hi .0) from r (now (edges .exit))
+        × Shown (now book) (zoneOf first (now ats) (now offsets)) (hi .0) w ⌝ }
+    ensures { λ r. ⌜ Leads (now (book .entry)) (zoneOf first (now (ats .entry)) (now (offsets .entry)))
+        (venueBy (zoneOf first (now (ats .entry)) (now (offsets .entry))) (Governing·governing (map (ruleAt (now (book .entry))) (now (rules .entry))))) (hi .0) w r (now (edges .exit))
         × Keeps (now (book .entry)) (now (rules .entry)) (now (kept .exit)) ⌝ }
 {
-    let mut turns = from.turns;
-    let mut began = from.began;
-    let mut cursor = from.cursor;
-    let mut date = from.date;
-    let mut governed = from.governed;
-    let mut least = from.next;
-    let mut calm = from.calm;
-    'turns: loop {
-        match governed {
-            Governed::Nothing => {}
-            Governed::By(rule) => {
-                let n = rule_points(book, rule as usize);
-                let k = showing(edges, least, n, cursor, hi);
-                if k < n {
-                    let start = edges[k];
-                    let end = edges[k + 1];
-                    return Pulled::Next(Piece {
-                        from: Instant(later(cursor.0, start)),
-                        to: Instant(earlier(hi.0, end)),
-                        start: Instant(start),
-                        end: Instant(end),
-                        date,
-                        rule,
-                        point: k,
-                        calm,
-                        turns,
-                        began,
-                    });
-                }
-            }
-        }
-        let next = onward(first, ats, offsets, hi, began, cursor, date);
-        if (next.0 <= began.0) | (turns == 0) {
-            break 'turns;
-        }
-        let turn = begin(
-            book,
-            first,
-            ats,
-            offsets,
-            rules,
-            kept,
-            edges,
-            turns - 1,
-            next,
-        );
-        turns = turn.turns;
-        began = turn.began;
-        cursor = turn.cursor;
-        date = turn.date;
-        governed = turn.governed;
-        least = turn.next;
-        calm = turn.calm;
+    let turns = w.turns;
+    let began = w.began;
+    let cursor = w.cursor;
+    let date = w.date;
+    let next = onward(first, ats, offsets, hi, began, cursor, date);
+    if (next.0 <= began.0) | (turns == 0) {
+        return Turned::Done;
     }
-    Pulled::Done
+    Turned::On(begin(
+        book,
+        first,
+        ats,
+        offsets,
+        rules,
+        kept,
+        edges,
+        turns - 1,
+        next,
+    ))
 }
 
 // Where the walk stands behind a piece.

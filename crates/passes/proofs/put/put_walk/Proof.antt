@@ -1,19 +1,19 @@
-use Rattle.passes.proofs.Steps.{z, left, fewer, come, gone, last-held, joins-held, held-next, held-count, its-place, its-count, its-room, its-length, found-few, written, stands-on, fewer-on, written-on, begun-writing, walk-put}
 use borrow.Author.Needs.{needs}
-use mathlib.Core.Path.{ap, _∙_}
-use Prim.Native.Nat.{_-_}
-use lib.ListN.{length}
-use native.Mathlib.Omega.{arith}
-use Rattle.answer.specs.declared.Phase.{Phase}
-use Rattle.spans.specs.Spans.{joined}
-use Rattle.venue.proofs.Laws.{good-rule}
-use Rattle.walk.specs.Walking.{Stands}
-use Rattle.walk.specs.Keeping.{Keeps}
-use Rattle.walk.proofs.Keeping.{keeps-blank}
-use Rattle.passes.specs.Private.{openOf}
-use Rattle.passes.specs.Joining.{phases}
+use Rattle.passes.proofs.Steps.{z, left, fewer, come, shown, gone, turned, turn-fewer, turn-written, last-held, joins-held, held-next, held-count, its-place, its-count, its-room, its-length, found-few, written, stands-on, fewer-on, written-on, begun-writing, walk-put}
 use Rattle.passes.proofs.Passes.{bytesOf, Writing, write-hole}
-use Rattle.passes.proofs.Steps.{z, left, fewer, come, gone, last-held, joins-held, held-next, held-count, its-place, its-count, its-room, its-length, found-few, written, begun-writing, walk-put}
+use Rattle.passes.specs.Joining.{phases}
+use Rattle.passes.specs.Private.{openOf}
+use Rattle.walk.proofs.Looking.{stands-held}
+use Rattle.walk.proofs.Keeping.{keeps-blank}
+use Rattle.walk.specs.Keeping.{Keeps}
+use Rattle.walk.specs.Walking.{Stands}
+use Rattle.venue.proofs.Laws.{good-rule}
+use Rattle.spans.specs.Spans.{joined}
+use Rattle.answer.specs.declared.Phase.{Phase}
+use native.Mathlib.Omega.{arith}
+use lib.ListN.{length}
+use Prim.Native.Nat.{_+_}
+use mathlib.Core.Path.{ap, _∙_}
 use Rattle.passes.proofs.put.put_walk.Statement.{statement}
 use Rattle.passes.proofs.put.put_walk.Tie as tie
 
@@ -24,7 +24,7 @@ Inv-pieces book first ats offsets rules events hi out₀ at kept₀ edges₀ w�
     × Keeps book rules kept
 
 abbrev μ-pieces : tie.MeasureT-pieces
-μ-pieces book first ats offsets rules events hi out₀ at kept₀ edges₀ w₀ head₀ begun₀ stand₀ place₀ out kept edges w head begun stand place = length (left book first ats offsets rules events (hi .0) w)
+μ-pieces book first ats offsets rules events hi out₀ at kept₀ edges₀ w₀ head₀ begun₀ stand₀ place₀ out kept edges w head begun stand place = length (left book first ats offsets rules events (hi .0) w) + w .turns
 
 sub-begin : tie.Need-sub-begin Inv-pieces μ-pieces
 sub-begin c = omega arith
@@ -41,16 +41,12 @@ pieces-holds : tie.Need-pieces-holds Inv-pieces μ-pieces
 pieces-holds c =
     let at-begin = c .before in
     let at-start = at-begin .before .before .before .before .before .before .before .before .before in
-    ((at-begin .begin .ensures .0) .stands, begun-writing ((at-start .args .book) .now) (at-start .args .first) ((at-start .args .ats) .now) ((at-start .args .offsets) .now) ((at-start .args .rules) .now) ((at-start .args .events) .now) ((at-start .args .hi) .0) ((at-start .pre) .0) (at-begin .begin .ensures .0) ((at-start .pre) .1), at-begin .begin .ensures .1)
+    ((at-begin .begin .ensures .0) .stands, begun-writing ((at-start .args .book) .now) (at-start .args .first) ((at-start .args .ats) .now) ((at-start .args .offsets) .now) ((at-start .args .rules) .now) ((at-start .args .events) .now) ((at-start .args .hi) .0) ((at-start .pre) .0) (at-begin .begin .ensures .0) ((at-start .pre) .1), (at-begin .begin .ensures .1))
 
-pull-requires : tie.Need-pull-requires Inv-pieces μ-pieces
-pull-requires c κs =
-    let at-pieces = c .before .before in
-    let at-start = at-pieces .before .before .before .before .before .before .before .before .before .before .before in
-    ((at-start .pre) .0 .zone, (at-start .pre) .0 .rules-listed, (at-pieces .pieces .inv) .2, (at-pieces .pieces .inv) .0)
-
-enum-told : tie.Need-enum-told Inv-pieces μ-pieces
-enum-told c = search needs
+here-requires : tie.Need-here-requires Inv-pieces μ-pieces
+here-requires c κs =
+    let at-pieces = c .before in
+    stands-held (at-pieces .pieces .inv .0)
 
 enum-known-q : tie.Need-enum-known-q Inv-pieces μ-pieces
 enum-known-q c = search needs
@@ -64,16 +60,18 @@ last-of-requires c κs = search needs
 point-phase-requires : tie.Need-point-phase-requires Inv-pieces μ-pieces
 point-phase-requires c κs =
     let at-q = c .before .before .before .before .before .before .before in
-    let at-pull = at-q .before .before in
-    let at-start = at-pull .before .before .before .before .before .before .before .before .before .before .before .before .before .before in
-    ((come ((at-start .args .book) .now) (at-start .args .first) ((at-start .args .ats) .now) ((at-start .args .offsets) .now) ((at-start .args .rules) .now) ((at-start .args .events) .now) ((at-start .args .hi) .0) _ _ _ (at-pull .pull .ensures .0) ((at-q .q .given) .1)) .fits .listed, (come ((at-start .args .book) .now) (at-start .args .first) ((at-start .args .ats) .now) ((at-start .args .offsets) .now) ((at-start .args .rules) .now) ((at-start .args .events) .now) ((at-start .args .hi) .0) _ _ _ (at-pull .pull .ensures .0) ((at-q .q .given) .1)) .fits .point)
+    let at-here = at-q .before .before in
+    let at-pieces = at-here .before .before in
+    let at-start = at-pieces .before .before .before .before .before .before .before .before .before .before .before in
+    ((come ((at-start .args .book) .now) (at-start .args .first) ((at-start .args .ats) .now) ((at-start .args .offsets) .now) ((at-start .args .rules) .now) ((at-start .args .events) .now) ((at-start .args .hi) .0) ((at-start .pre) .0) _ _ _ (at-pieces .pieces .inv .0) (at-here .here .ensures) ((at-q .q .given) .1)) .fits .listed, (come ((at-start .args .book) .now) (at-start .args .first) ((at-start .args .ats) .now) ((at-start .args .offsets) .now) ((at-start .args .rules) .now) ((at-start .args .events) .now) ((at-start .args .hi) .0) ((at-start .pre) .0) _ _ _ (at-pieces .pieces .inv .0) (at-here .here .ensures) ((at-q .q .given) .1)) .fits .point)
 
 rule-evidence-requires : tie.Need-rule-evidence-requires Inv-pieces μ-pieces
 rule-evidence-requires c κs =
     let at-q = c .before .before .before .before .before .before .before .before in
-    let at-pull = at-q .before .before in
-    let at-start = at-pull .before .before .before .before .before .before .before .before .before .before .before .before .before .before in
-    (come ((at-start .args .book) .now) (at-start .args .first) ((at-start .args .ats) .now) ((at-start .args .offsets) .now) ((at-start .args .rules) .now) ((at-start .args .events) .now) ((at-start .args .hi) .0) _ _ _ (at-pull .pull .ensures .0) ((at-q .q .given) .1)) .fits .listed
+    let at-here = at-q .before .before in
+    let at-pieces = at-here .before .before in
+    let at-start = at-pieces .before .before .before .before .before .before .before .before .before .before .before in
+    (come ((at-start .args .book) .now) (at-start .args .first) ((at-start .args .ats) .now) ((at-start .args .offsets) .now) ((at-start .args .rules) .now) ((at-start .args .events) .now) ((at-start .args .hi) .0) ((at-start .pre) .0) _ _ _ (at-pieces .pieces .inv .0) (at-here .here .ensures) ((at-q .q .given) .1)) .fits .listed
 
 joins-requires : tie.Need-joins-requires Inv-pieces μ-pieces
 joins-requires c κs = search needs
@@ -85,10 +83,10 @@ events-place-requires c κs =
     let at-point-phase = at-rule-evidence .before in
     let at-last-of = at-point-phase .before in
     let at-q = at-last-of .before .before .before .before .before .before .before in
-    let at-pull = at-q .before .before in
-    let at-pieces = at-pull .before .before .before in
+    let at-here = at-q .before .before in
+    let at-pieces = at-here .before .before in
     let at-start = at-pieces .before .before .before .before .before .before .before .before .before .before .before in
-    its-place ((at-start .args .book) .now) (at-start .args .first) ((at-start .args .ats) .now) ((at-start .args .offsets) .now) ((at-start .args .rules) .now) ((at-start .args .events) .now) ((at-start .args .hi) .0) ((at-start .pre) .0) (come ((at-start .args .book) .now) (at-start .args .first) ((at-start .args .ats) .now) ((at-start .args .offsets) .now) ((at-start .args .rules) .now) ((at-start .args .events) .now) ((at-start .args .hi) .0) _ _ _ (at-pull .pull .ensures .0) ((at-q .q .given) .1)) ((at-point-phase .point-phase .ensures) .0) (at-rule-evidence .rule-evidence .ensures) ((at-pieces .pieces .inv) .1) ((at-last-of .last-of .ensures) ∙ last-held (at-pieces .pieces .begun) (at-pieces .pieces .stand) (at-pieces .pieces .head)) (at-joins .joins .ensures)
+    its-place ((at-start .args .book) .now) (at-start .args .first) ((at-start .args .ats) .now) ((at-start .args .offsets) .now) ((at-start .args .rules) .now) ((at-start .args .events) .now) ((at-start .args .hi) .0) ((at-start .pre) .0) (come ((at-start .args .book) .now) (at-start .args .first) ((at-start .args .ats) .now) ((at-start .args .offsets) .now) ((at-start .args .rules) .now) ((at-start .args .events) .now) ((at-start .args .hi) .0) ((at-start .pre) .0) _ _ _ (at-pieces .pieces .inv .0) (at-here .here .ensures) ((at-q .q .given) .1)) ((at-point-phase .point-phase .ensures) .0) (at-rule-evidence .rule-evidence .ensures) ((at-pieces .pieces .inv) .1) ((at-last-of .last-of .ensures) ∙ last-held (at-pieces .pieces .begun) (at-pieces .pieces .stand) (at-pieces .pieces .head)) (at-joins .joins .ensures)
 
 put-events-requires : tie.Need-put-events-requires Inv-pieces μ-pieces
 put-events-requires c κs =
@@ -98,10 +96,10 @@ put-events-requires c κs =
     let at-point-phase = at-rule-evidence .before in
     let at-last-of = at-point-phase .before in
     let at-q = at-last-of .before .before .before .before .before .before .before in
-    let at-pull = at-q .before .before in
-    let at-pieces = at-pull .before .before .before in
+    let at-here = at-q .before .before in
+    let at-pieces = at-here .before .before in
     let at-start = at-pieces .before .before .before .before .before .before .before .before .before .before .before in
-    ((at-start .pre) .0 .zone, (at-start .pre) .0 .events-listed, (at-start .pre) .0 .few, its-room ((at-start .args .book) .now) (at-start .args .first) ((at-start .args .ats) .now) ((at-start .args .offsets) .now) ((at-start .args .rules) .now) ((at-start .args .events) .now) ((at-start .args .hi) .0) ((at-start .pre) .0) (come ((at-start .args .book) .now) (at-start .args .first) ((at-start .args .ats) .now) ((at-start .args .offsets) .now) ((at-start .args .rules) .now) ((at-start .args .events) .now) ((at-start .args .hi) .0) _ _ _ (at-pull .pull .ensures .0) ((at-q .q .given) .1)) ((at-point-phase .point-phase .ensures) .0) (at-rule-evidence .rule-evidence .ensures) ((at-pieces .pieces .inv) .1) ((at-last-of .last-of .ensures) ∙ last-held (at-pieces .pieces .begun) (at-pieces .pieces .stand) (at-pieces .pieces .head)) (at-joins .joins .ensures) (at-events-place .events-place .ensures))
+    ((at-start .pre) .0 .zone, (at-start .pre) .0 .events-listed, (at-start .pre) .0 .few, its-room ((at-start .args .book) .now) (at-start .args .first) ((at-start .args .ats) .now) ((at-start .args .offsets) .now) ((at-start .args .rules) .now) ((at-start .args .events) .now) ((at-start .args .hi) .0) ((at-start .pre) .0) (come ((at-start .args .book) .now) (at-start .args .first) ((at-start .args .ats) .now) ((at-start .args .offsets) .now) ((at-start .args .rules) .now) ((at-start .args .events) .now) ((at-start .args .hi) .0) ((at-start .pre) .0) _ _ _ (at-pieces .pieces .inv .0) (at-here .here .ensures) ((at-q .q .given) .1)) ((at-point-phase .point-phase .ensures) .0) (at-rule-evidence .rule-evidence .ensures) ((at-pieces .pieces .inv) .1) ((at-last-of .last-of .ensures) ∙ last-held (at-pieces .pieces .begun) (at-pieces .pieces .stand) (at-pieces .pieces .head)) (at-joins .joins .ensures) (at-events-place .events-place .ensures))
 
 sub-count : tie.Need-sub-count Inv-pieces μ-pieces
 sub-count c =
@@ -112,16 +110,18 @@ cast-head-of : tie.Need-cast-head-of Inv-pieces μ-pieces
 cast-head-of c =
     let at-put-events = c .before .before in
     let at-q = at-put-events .before .before .before .before .before .before .before .before .before .before .before .before .before .before .before .before in
-    let at-pull = at-q .before .before in
-    let at-start = at-pull .before .before .before .before .before .before .before .before .before .before .before .before .before .before in
-    omega (arith, its-length (at-put-events .put-events .ensures), found-few ((at-start .args .book) .now) (at-start .args .first) ((at-start .args .ats) .now) ((at-start .args .offsets) .now) ((at-start .args .rules) .now) ((at-start .args .events) .now) ((at-start .args .hi) .0) ((at-start .pre) .0) _ ((come ((at-start .args .book) .now) (at-start .args .first) ((at-start .args .ats) .now) ((at-start .args .offsets) .now) ((at-start .args .rules) .now) ((at-start .args .events) .now) ((at-start .args .hi) .0) _ _ _ (at-pull .pull .ensures .0) ((at-q .q .given) .1)) .fits))
+    let at-here = at-q .before .before in
+    let at-pieces = at-here .before .before in
+    let at-start = at-pieces .before .before .before .before .before .before .before .before .before .before .before in
+    omega (arith, its-length (at-put-events .put-events .ensures), found-few ((at-start .args .book) .now) (at-start .args .first) ((at-start .args .ats) .now) ((at-start .args .offsets) .now) ((at-start .args .rules) .now) ((at-start .args .events) .now) ((at-start .args .hi) .0) ((at-start .pre) .0) _ ((come ((at-start .args .book) .now) (at-start .args .first) ((at-start .args .ats) .now) ((at-start .args .offsets) .now) ((at-start .args .rules) .now) ((at-start .args .events) .now) ((at-start .args .hi) .0) ((at-start .pre) .0) _ _ _ (at-pieces .pieces .inv .0) (at-here .here .ensures) ((at-q .q .given) .1)) .fits))
 
 head-of-requires : tie.Need-head-of-requires Inv-pieces μ-pieces
 head-of-requires c κs =
     let at-q = c .before .before .before .before .before .before .before .before .before .before .before .before .before .before .before .before .before .before in
-    let at-pull = at-q .before .before in
-    let at-start = at-pull .before .before .before .before .before .before .before .before .before .before .before .before .before .before in
-    ((at-start .pre) .0 .zone, (come ((at-start .args .book) .now) (at-start .args .first) ((at-start .args .ats) .now) ((at-start .args .offsets) .now) ((at-start .args .rules) .now) ((at-start .args .events) .now) ((at-start .args .hi) .0) _ _ _ (at-pull .pull .ensures .0) ((at-q .q .given) .1)) .fits)
+    let at-here = at-q .before .before in
+    let at-pieces = at-here .before .before in
+    let at-start = at-pieces .before .before .before .before .before .before .before .before .before .before .before in
+    ((at-start .pre) .0 .zone, (come ((at-start .args .book) .now) (at-start .args .first) ((at-start .args .ats) .now) ((at-start .args .offsets) .now) ((at-start .args .rules) .now) ((at-start .args .events) .now) ((at-start .args .hi) .0) ((at-start .pre) .0) _ _ _ (at-pieces .pieces .inv .0) (at-here .here .ensures) ((at-q .q .given) .1)) .fits)
 
 record-place-requires : tie.Need-record-place-requires Inv-pieces μ-pieces
 record-place-requires c κs = search needs
@@ -135,17 +135,18 @@ told-requires c κs =
     let at-point-phase = at-rule-evidence .before in
     let at-last-of = at-point-phase .before in
     let at-q = at-last-of .before .before .before .before .before .before .before in
-    let at-pull = at-q .before .before in
-    let at-pieces = at-pull .before .before .before in
+    let at-here = at-q .before .before in
+    let at-pieces = at-here .before .before in
     let at-start = at-pieces .before .before .before .before .before .before .before .before .before .before .before in
-    held-count (at-pieces .pieces .begun) _ (at-pieces .pieces .stand) (at-pieces .pieces .head) _ (its-count ((at-start .args .book) .now) (at-start .args .first) ((at-start .args .ats) .now) ((at-start .args .offsets) .now) ((at-start .args .rules) .now) ((at-start .args .events) .now) ((at-start .args .hi) .0) ((at-start .pre) .0) (come ((at-start .args .book) .now) (at-start .args .first) ((at-start .args .ats) .now) ((at-start .args .offsets) .now) ((at-start .args .rules) .now) ((at-start .args .events) .now) ((at-start .args .hi) .0) _ _ _ (at-pull .pull .ensures .0) ((at-q .q .given) .1)) ((at-point-phase .point-phase .ensures) .0) (at-rule-evidence .rule-evidence .ensures) ((at-pieces .pieces .inv) .1) ((at-last-of .last-of .ensures) ∙ last-held (at-pieces .pieces .begun) (at-pieces .pieces .stand) (at-pieces .pieces .head)) (at-joins .joins .ensures) (ap (λ (h : Phase). h .events) (at-head-of .head-of .ensures) ∙ its-length (at-put-events .put-events .ensures))) (joins-held (at-pieces .pieces .begun) (at-pieces .pieces .head) _ _ _ (at-last-of .last-of .ensures) (at-joins .joins .ensures))
+    held-count (at-pieces .pieces .begun) _ (at-pieces .pieces .stand) (at-pieces .pieces .head) _ (its-count ((at-start .args .book) .now) (at-start .args .first) ((at-start .args .ats) .now) ((at-start .args .offsets) .now) ((at-start .args .rules) .now) ((at-start .args .events) .now) ((at-start .args .hi) .0) ((at-start .pre) .0) (come ((at-start .args .book) .now) (at-start .args .first) ((at-start .args .ats) .now) ((at-start .args .offsets) .now) ((at-start .args .rules) .now) ((at-start .args .events) .now) ((at-start .args .hi) .0) ((at-start .pre) .0) _ _ _ (at-pieces .pieces .inv .0) (at-here .here .ensures) ((at-q .q .given) .1)) ((at-point-phase .point-phase .ensures) .0) (at-rule-evidence .rule-evidence .ensures) ((at-pieces .pieces .inv) .1) ((at-last-of .last-of .ensures) ∙ last-held (at-pieces .pieces .begun) (at-pieces .pieces .stand) (at-pieces .pieces .head)) (at-joins .joins .ensures) (ap (λ (h : Phase). h .events) (at-head-of .head-of .ensures) ∙ its-length (at-put-events .put-events .ensures))) (joins-held (at-pieces .pieces .begun) (at-pieces .pieces .head) _ _ _ (at-last-of .last-of .ensures) (at-joins .joins .ensures))
 
 behind-requires : tie.Need-behind-requires Inv-pieces μ-pieces
 behind-requires c κs =
     let at-q = c .before .before .before .before .before .before .before .before .before .before .before .before .before .before .before .before .before .before .before .before .before in
-    let at-pull = at-q .before .before in
-    let at-start = at-pull .before .before .before .before .before .before .before .before .before .before .before .before .before .before in
-    omega (arith, (come ((at-start .args .book) .now) (at-start .args .first) ((at-start .args .ats) .now) ((at-start .args .offsets) .now) ((at-start .args .rules) .now) ((at-start .args .events) .now) ((at-start .args .hi) .0) _ _ _ (at-pull .pull .ensures .0) ((at-q .q .given) .1)) .fits .point, good-rule ((at-start .args .book) .now) _ ((come ((at-start .args .book) .now) (at-start .args .first) ((at-start .args .ats) .now) ((at-start .args .offsets) .now) ((at-start .args .rules) .now) ((at-start .args .events) .now) ((at-start .args .hi) .0) _ _ _ (at-pull .pull .ensures .0) ((at-q .q .given) .1)) .fits .listed) .few)
+    let at-here = at-q .before .before in
+    let at-pieces = at-here .before .before in
+    let at-start = at-pieces .before .before .before .before .before .before .before .before .before .before .before in
+    omega (arith, (come ((at-start .args .book) .now) (at-start .args .first) ((at-start .args .ats) .now) ((at-start .args .offsets) .now) ((at-start .args .rules) .now) ((at-start .args .events) .now) ((at-start .args .hi) .0) ((at-start .pre) .0) _ _ _ (at-pieces .pieces .inv .0) (at-here .here .ensures) ((at-q .q .given) .1)) .fits .point, good-rule ((at-start .args .book) .now) _ ((come ((at-start .args .book) .now) (at-start .args .first) ((at-start .args .ats) .now) ((at-start .args .offsets) .now) ((at-start .args .rules) .now) ((at-start .args .events) .now) ((at-start .args .hi) .0) ((at-start .pre) .0) _ _ _ (at-pieces .pieces .inv .0) (at-here .here .ensures) ((at-q .q .given) .1)) .fits .listed) .few)
 
 pieces-less : tie.Need-pieces-less Inv-pieces μ-pieces
 pieces-less c =
@@ -153,9 +154,10 @@ pieces-less c =
     let at-rule-evidence = at-behind .before .before .before .before .before .before .before .before .before .before .before .before .before in
     let at-point-phase = at-rule-evidence .before in
     let at-q = at-point-phase .before .before .before .before .before .before .before .before in
-    let at-pull = at-q .before .before in
-    let at-start = at-pull .before .before .before .before .before .before .before .before .before .before .before .before .before .before in
-    fewer-on ((at-start .args .book) .now) (at-start .args .first) ((at-start .args .ats) .now) ((at-start .args .offsets) .now) ((at-start .args .rules) .now) ((at-start .args .events) .now) ((at-start .args .hi) .0) (at-behind .behind .ensures) (fewer ((at-start .args .book) .now) (at-start .args .first) ((at-start .args .ats) .now) ((at-start .args .offsets) .now) ((at-start .args .rules) .now) ((at-start .args .events) .now) ((at-start .args .hi) .0) ((at-start .pre) .0) (come ((at-start .args .book) .now) (at-start .args .first) ((at-start .args .ats) .now) ((at-start .args .offsets) .now) ((at-start .args .rules) .now) ((at-start .args .events) .now) ((at-start .args .hi) .0) _ _ _ (at-pull .pull .ensures .0) ((at-q .q .given) .1)) ((at-point-phase .point-phase .ensures) .0) (at-rule-evidence .rule-evidence .ensures))
+    let at-here = at-q .before .before in
+    let at-pieces = at-here .before .before in
+    let at-start = at-pieces .before .before .before .before .before .before .before .before .before .before .before in
+    fewer-on ((at-start .args .book) .now) (at-start .args .first) ((at-start .args .ats) .now) ((at-start .args .offsets) .now) ((at-start .args .rules) .now) ((at-start .args .events) .now) ((at-start .args .hi) .0) (at-behind .behind .ensures) (fewer ((at-start .args .book) .now) (at-start .args .first) ((at-start .args .ats) .now) ((at-start .args .offsets) .now) ((at-start .args .rules) .now) ((at-start .args .events) .now) ((at-start .args .hi) .0) ((at-start .pre) .0) (come ((at-start .args .book) .now) (at-start .args .first) ((at-start .args .ats) .now) ((at-start .args .offsets) .now) ((at-start .args .rules) .now) ((at-start .args .events) .now) ((at-start .args .hi) .0) ((at-start .pre) .0) _ _ _ (at-pieces .pieces .inv .0) (at-here .here .ensures) ((at-q .q .given) .1)) ((at-point-phase .point-phase .ensures) .0) (at-rule-evidence .rule-evidence .ensures))
 
 pieces-again : tie.Need-pieces-again Inv-pieces μ-pieces
 pieces-again c =
@@ -170,35 +172,67 @@ pieces-again c =
     let at-point-phase = at-rule-evidence .before in
     let at-last-of = at-point-phase .before in
     let at-q = at-last-of .before .before .before .before .before .before .before in
-    let at-pull = at-q .before .before in
-    let at-pieces = at-pull .before .before .before in
+    let at-here = at-q .before .before in
+    let at-pieces = at-here .before .before in
     let at-start = at-pieces .before .before .before .before .before .before .before .before .before .before .before in
-    (stands-on ((at-start .args .book) .now) (at-start .args .first) ((at-start .args .ats) .now) ((at-start .args .offsets) .now) ((at-start .args .rules) .now) ((at-start .args .events) .now) ((at-start .args .hi) .0) (at-behind .behind .ensures) ((come ((at-start .args .book) .now) (at-start .args .first) ((at-start .args .ats) .now) ((at-start .args .offsets) .now) ((at-start .args .rules) .now) ((at-start .args .events) .now) ((at-start .args .hi) .0) _ _ _ (at-pull .pull .ensures .0) ((at-q .q .given) .1)) .stands), written-on ((at-start .args .book) .now) (at-start .args .first) ((at-start .args .ats) .now) ((at-start .args .offsets) .now) ((at-start .args .rules) .now) ((at-start .args .events) .now) ((at-start .args .hi) .0) (at-behind .behind .ensures) (written ((at-start .args .book) .now) (at-start .args .first) ((at-start .args .ats) .now) ((at-start .args .offsets) .now) ((at-start .args .rules) .now) ((at-start .args .events) .now) ((at-start .args .hi) .0) ((at-start .pre) .0) (come ((at-start .args .book) .now) (at-start .args .first) ((at-start .args .ats) .now) ((at-start .args .offsets) .now) ((at-start .args .rules) .now) ((at-start .args .events) .now) ((at-start .args .hi) .0) _ _ _ (at-pull .pull .ensures .0) ((at-q .q .given) .1)) ((at-point-phase .point-phase .ensures) .0) (at-rule-evidence .rule-evidence .ensures) ((at-pieces .pieces .inv) .1) ((at-last-of .last-of .ensures) ∙ last-held (at-pieces .pieces .begun) (at-pieces .pieces .stand) (at-pieces .pieces .head)) (at-joins .joins .ensures) (at-events-place .events-place .ensures) (at-put-events .put-events .ensures) (its-length (at-put-events .put-events .ensures)) (at-head-of .head-of .ensures) (held-next (at-pieces .pieces .begun) _ (at-pieces .pieces .stand) (at-pieces .pieces .place) (at-pieces .pieces .head) _ (joins-held (at-pieces .pieces .begun) (at-pieces .pieces .head) _ _ _ (at-last-of .last-of .ensures) (at-joins .joins .ensures)) (at-record-place .record-place .ensures) (at-told .told .ensures))), at-pull .pull .ensures .1)
+    (stands-on ((at-start .args .book) .now) (at-start .args .first) ((at-start .args .ats) .now) ((at-start .args .offsets) .now) ((at-start .args .rules) .now) ((at-start .args .events) .now) ((at-start .args .hi) .0) (at-behind .behind .ensures) ((come ((at-start .args .book) .now) (at-start .args .first) ((at-start .args .ats) .now) ((at-start .args .offsets) .now) ((at-start .args .rules) .now) ((at-start .args .events) .now) ((at-start .args .hi) .0) ((at-start .pre) .0) _ _ _ (at-pieces .pieces .inv .0) (at-here .here .ensures) ((at-q .q .given) .1)) .stands), written-on ((at-start .args .book) .now) (at-start .args .first) ((at-start .args .ats) .now) ((at-start .args .offsets) .now) ((at-start .args .rules) .now) ((at-start .args .events) .now) ((at-start .args .hi) .0) (at-behind .behind .ensures) (written ((at-start .args .book) .now) (at-start .args .first) ((at-start .args .ats) .now) ((at-start .args .offsets) .now) ((at-start .args .rules) .now) ((at-start .args .events) .now) ((at-start .args .hi) .0) ((at-start .pre) .0) (come ((at-start .args .book) .now) (at-start .args .first) ((at-start .args .ats) .now) ((at-start .args .offsets) .now) ((at-start .args .rules) .now) ((at-start .args .events) .now) ((at-start .args .hi) .0) ((at-start .pre) .0) _ _ _ (at-pieces .pieces .inv .0) (at-here .here .ensures) ((at-q .q .given) .1)) ((at-point-phase .point-phase .ensures) .0) (at-rule-evidence .rule-evidence .ensures) ((at-pieces .pieces .inv) .1) ((at-last-of .last-of .ensures) ∙ last-held (at-pieces .pieces .begun) (at-pieces .pieces .stand) (at-pieces .pieces .head)) (at-joins .joins .ensures) (at-events-place .events-place .ensures) (at-put-events .put-events .ensures) (its-length (at-put-events .put-events .ensures)) (at-head-of .head-of .ensures) (held-next (at-pieces .pieces .begun) _ (at-pieces .pieces .stand) (at-pieces .pieces .place) (at-pieces .pieces .head) _ (joins-held (at-pieces .pieces .begun) (at-pieces .pieces .head) _ _ _ (at-last-of .last-of .ensures) (at-joins .joins .ensures)) (at-record-place .record-place .ensures) (at-told .told .ensures))), (at-pieces .pieces .inv .2))
+
+enum-told : tie.Need-enum-told Inv-pieces μ-pieces
+enum-told c = search needs
+
+turn-on-requires : tie.Need-turn-on-requires Inv-pieces μ-pieces
+turn-on-requires c κs =
+    let at-enum-told = c .before .before in
+    let at-here = at-enum-told .before .before in
+    let at-pieces = at-here .before .before in
+    let at-start = at-pieces .before .before .before .before .before .before .before .before .before .before .before in
+    ((at-start .pre) .0 .zone, (at-start .pre) .0 .rules-listed, (at-pieces .pieces .inv .2), (shown ((at-start .args .book) .now) (at-start .args .first) ((at-start .args .ats) .now) ((at-start .args .offsets) .now) ((at-start .args .rules) .now) ((at-start .args .events) .now) ((at-start .args .hi) .0) ((at-start .pre) .0) _ _ _ (at-pieces .pieces .inv .0) (at-here .here .ensures) ((at-enum-told .enum-told .given) .1)))
+
+enum-told-2 : tie.Need-enum-told-2 Inv-pieces μ-pieces
+enum-told-2 c = search needs
+
+enum-known-next : tie.Need-enum-known-next Inv-pieces μ-pieces
+enum-known-next c = search needs
+
+pieces-less-2 : tie.Need-pieces-less-2 Inv-pieces μ-pieces
+pieces-less-2 c =
+    let at-next = c .before in
+    let at-turn-on = at-next .before .before in
+    let at-start = at-turn-on .before .before .before .before .before .before .before .before .before .before .before .before .before .before .before .before .before .before in
+    turn-fewer ((at-start .args .book) .now) (at-start .args .first) ((at-start .args .ats) .now) ((at-start .args .offsets) .now) ((at-start .args .rules) .now) ((at-start .args .events) .now) ((at-start .args .hi) .0) (turned ((at-start .args .book) .now) (at-start .args .first) ((at-start .args .ats) .now) ((at-start .args .offsets) .now) ((at-start .args .rules) .now) ((at-start .args .events) .now) ((at-start .args .hi) .0) _ _ _ (at-turn-on .turn-on .ensures .0) ((at-next .next .given) .1))
+
+pieces-again-2 : tie.Need-pieces-again-2 Inv-pieces μ-pieces
+pieces-again-2 c =
+    let at-next = c .before in
+    let at-turn-on = at-next .before .before in
+    let at-pieces = at-turn-on .before .before .before .before .before .before .before in
+    let at-start = at-pieces .before .before .before .before .before .before .before .before .before .before .before in
+    ((turned ((at-start .args .book) .now) (at-start .args .first) ((at-start .args .ats) .now) ((at-start .args .offsets) .now) ((at-start .args .rules) .now) ((at-start .args .events) .now) ((at-start .args .hi) .0) _ _ _ (at-turn-on .turn-on .ensures .0) ((at-next .next .given) .1)) .stands, turn-written ((at-start .args .book) .now) (at-start .args .first) ((at-start .args .ats) .now) ((at-start .args .offsets) .now) ((at-start .args .rules) .now) ((at-start .args .events) .now) ((at-start .args .hi) .0) (turned ((at-start .args .book) .now) (at-start .args .first) ((at-start .args .ats) .now) ((at-start .args .offsets) .now) ((at-start .args .rules) .now) ((at-start .args .events) .now) ((at-start .args .hi) .0) _ _ _ (at-turn-on .turn-on .ensures .0) ((at-next .next .given) .1)) (at-pieces .pieces .inv .1), (at-turn-on .turn-on .ensures .1))
 
 close-requires : tie.Need-close-requires Inv-pieces μ-pieces
 close-requires c κs =
-    let at-pieces = c .before .before .before .before .before .before in
+    let at-pieces = c .before .before .before .before .before .before .before .before .before .before in
     write-hole _ ((at-pieces .pieces .inv) .1)
 
 same-length : tie.Need-same-length Inv-pieces μ-pieces
 same-length c =
     let at-close = c .before .before in
-    let at-enum-told = at-close .before .before in
-    let at-pull = at-enum-told .before .before in
-    let at-pieces = at-pull .before .before .before in
+    let at-enum-told2 = at-close .before .before in
+    let at-turn-on = at-enum-told2 .before .before in
+    let at-pieces = at-turn-on .before .before .before .before .before .before .before in
     let at-begin = at-pieces .before .before in
     let at-start = at-begin .before .before .before .before .before .before .before .before .before in
-    walk-put ((at-start .args .book) .now) (at-start .args .first) ((at-start .args .ats) .now) ((at-start .args .offsets) .now) ((at-start .args .rules) .now) ((at-start .args .events) .now) ((at-start .args .hi) .0) ((at-start .pre) .0) (at-begin .begin .ensures .0) ((at-pieces .pieces .inv) .1) (gone ((at-start .args .book) .now) (at-start .args .first) ((at-start .args .ats) .now) ((at-start .args .offsets) .now) ((at-start .args .rules) .now) ((at-start .args .events) .now) ((at-start .args .hi) .0) _ _ _ (at-pull .pull .ensures .0) ((at-enum-told .enum-told .given) .1)) (at-close .close .ensures) .kept
+    walk-put ((at-start .args .book) .now) (at-start .args .first) ((at-start .args .ats) .now) ((at-start .args .offsets) .now) ((at-start .args .rules) .now) ((at-start .args .events) .now) ((at-start .args .hi) .0) ((at-start .pre) .0) (at-begin .begin .ensures .0) ((at-pieces .pieces .inv) .1) (gone ((at-start .args .book) .now) (at-start .args .first) ((at-start .args .ats) .now) ((at-start .args .offsets) .now) ((at-start .args .rules) .now) ((at-start .args .events) .now) ((at-start .args .hi) .0) _ _ _ (at-turn-on .turn-on .ensures .0) ((at-enum-told2 .enum-told2 .given) .1)) (at-close .close .ensures) .kept
 
 returns : tie.Need-returns Inv-pieces μ-pieces
 returns c =
     let at-close = c .before .before in
-    let at-enum-told = at-close .before .before in
-    let at-pull = at-enum-told .before .before in
-    let at-pieces = at-pull .before .before .before in
+    let at-enum-told2 = at-close .before .before in
+    let at-turn-on = at-enum-told2 .before .before in
+    let at-pieces = at-turn-on .before .before .before .before .before .before .before in
     let at-begin = at-pieces .before .before in
     let at-start = at-begin .before .before .before .before .before .before .before .before .before in
-    walk-put ((at-start .args .book) .now) (at-start .args .first) ((at-start .args .ats) .now) ((at-start .args .offsets) .now) ((at-start .args .rules) .now) ((at-start .args .events) .now) ((at-start .args .hi) .0) ((at-start .pre) .0) (at-begin .begin .ensures .0) ((at-pieces .pieces .inv) .1) (gone ((at-start .args .book) .now) (at-start .args .first) ((at-start .args .ats) .now) ((at-start .args .offsets) .now) ((at-start .args .rules) .now) ((at-start .args .events) .now) ((at-start .args .hi) .0) _ _ _ (at-pull .pull .ensures .0) ((at-enum-told .enum-told .given) .1)) (at-close .close .ensures)
+    walk-put ((at-start .args .book) .now) (at-start .args .first) ((at-start .args .ats) .now) ((at-start .args .offsets) .now) ((at-start .args .rules) .now) ((at-start .args .events) .now) ((at-start .args .hi) .0) ((at-start .pre) .0) (at-begin .begin .ensures .0) ((at-pieces .pieces .inv) .1) (gone ((at-start .args .book) .now) (at-start .args .first) ((at-start .args .ats) .now) ((at-start .args .offsets) .now) ((at-start .args .rules) .now) ((at-start .args .events) .now) ((at-start .args .hi) .0) _ _ _ (at-turn-on .turn-on .ensures .0) ((at-enum-told2 .enum-told2 .given) .1)) (at-close .close .ensures)
 
 pub put-walk-spec : {M : Type 1} → statement M
 put-walk-spec =
@@ -210,8 +244,7 @@ put-walk-spec =
     begin-requires
     blank-requires
     pieces-holds
-    pull-requires
-    enum-told
+    here-requires
     enum-known-q
     cast-rule
     last-of-requires
@@ -228,6 +261,12 @@ put-walk-spec =
     behind-requires
     pieces-less
     pieces-again
+    enum-told
+    turn-on-requires
+    enum-told-2
+    enum-known-next
+    pieces-less-2
+    pieces-again-2
     close-requires
     same-length
     returns)

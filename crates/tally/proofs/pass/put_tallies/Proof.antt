@@ -1,18 +1,19 @@
 use borrow.Author.Needs.{needs}
-use native.Mathlib.Omega.{arith}
-use Prim.Native.Nat.{_-_}
-use lib.ListN.{length}
-use mathlib.Core.List.{[], _∷_}
-use mathlib.Core.Path.{_∙_}
-use Rattle.venue.proofs.Laws.{good-rule}
-use Rattle.zone.specs.Zone.{zoneOf}
-use Rattle.spans.specs.Spans.{unknown}
-use Rattle.walk.specs.Walking.{Stands}
-use Rattle.walk.specs.Keeping.{Keeps}
-use Rattle.walk.proofs.Keeping.{keeps-blank}
-use Rattle.day.specs.Meaning.{valuesAt}
+use Rattle.tally.proofs.Passing.{pieces, stands-on, come, shown, gone, turned, Walked, walked-none, walked-coming, walked-next, walked-less, turn-walked, turn-less, done-coming, done-ending, done-put, venue-coming, venue-standing}
 use Rattle.tally.specs.Private.{rawOf, stretchOf}
-use Rattle.tally.proofs.Passing.{pieces, stands-on, come, gone, Walked, walked-none, walked-coming, walked-next, walked-less, done-coming, done-ending, done-put, venue-coming, venue-standing}
+use Rattle.day.specs.Meaning.{valuesAt}
+use Rattle.walk.proofs.Looking.{stands-held}
+use Rattle.walk.proofs.Keeping.{keeps-blank}
+use Rattle.walk.specs.Keeping.{Keeps}
+use Rattle.walk.specs.Walking.{Stands}
+use Rattle.spans.specs.Spans.{unknown}
+use Rattle.zone.specs.Zone.{zoneOf}
+use Rattle.venue.proofs.Laws.{good-rule}
+use mathlib.Core.Path.{_∙_}
+use mathlib.Core.List.{[], _∷_}
+use lib.ListN.{length}
+use Prim.Native.Nat.{_+_}
+use native.Mathlib.Omega.{arith}
 use Rattle.tally.proofs.pass.put_tallies.Statement.{statement}
 use Rattle.tally.proofs.pass.put_tallies.Tie as tie
 
@@ -23,7 +24,7 @@ Inv-pieces book ats offsets rules events start end out₀ first hi after row₀ 
 
 abbrev μ-pieces : tie.MeasureT-pieces
 μ-pieces book ats offsets rules events start end out₀ first hi after row₀ whole₀ place₀ kept₀ edges₀ w₀ out row whole place kept edges w =
-    length (pieces book first ats offsets rules (hi .0) w)
+    length (pieces book first ats offsets rules (hi .0) w) + w .turns
 
 earlier-requires : tie.Need-earlier-requires Inv-pieces μ-pieces
 earlier-requires c κs = search needs
@@ -47,7 +48,7 @@ stretch-requires c κs =
     let at-first-page = c .before .before .before in
     let at-earlier = at-first-page .before .before .before .before .before .before in
     let at-start = at-earlier .before .before .before .before .before .before .before .before .before in
-    venue-coming (((at-start .args .book) .now)) ((at-start .args .h)) (((at-start .args .ats) .now)) (((at-start .args .offsets) .now)) (((at-start .args .rules) .now)) ((at-start .args .events) .now) ((at-start .args .out) .now) ((at-start .pre) .1) ((at-start .pre) .2) ((at-start .pre) .3) ((at-first-page .first-page .ensures)) ((at-earlier .earlier .ensures))
+    venue-coming ((at-start .args .book) .now) (at-start .args .h) ((at-start .args .ats) .now) ((at-start .args .offsets) .now) ((at-start .args .rules) .now) ((at-start .args .events) .now) ((at-start .args .out) .now) ((at-start .pre) .1) ((at-start .pre) .2) ((at-start .pre) .3) (at-first-page .first-page .ensures) (at-earlier .earlier .ensures)
 
 sub-begin : tie.Need-sub-begin Inv-pieces μ-pieces
 sub-begin c = omega arith
@@ -62,16 +63,12 @@ pieces-holds c =
     let at-begin = c in
     let at-earlier2 = at-begin .before .before .before .before .before .before .before .before .before .before .before .before .before in
     let at-start = at-earlier2 .before .before .before .before .before .before .before .before .before .before .before in
-    ((at-begin .begin .ensures .0) .stands, walked-none (((at-start .args .book) .now)) (((at-start .args .h) .first)) (((at-start .args .ats) .now)) (((at-start .args .offsets) .now)) (((at-start .args .rules) .now)) (((at-earlier2 .earlier2 .result))) _ _ _ _ _ _ _, at-begin .begin .ensures .1)
+    ((at-begin .begin .ensures .0) .stands, walked-none ((at-start .args .book) .now) ((at-start .args .h) .first) ((at-start .args .ats) .now) ((at-start .args .offsets) .now) ((at-start .args .rules) .now) (at-earlier2 .earlier2 .result) _ _ _ _ _ _ _, (at-begin .begin .ensures .1))
 
-pull-requires : tie.Need-pull-requires Inv-pieces μ-pieces
-pull-requires c κs =
-    let at-pieces = c .before .before in
-    let at-start = at-pieces .before .before .before .before .before .before .before .before .before .before .before .before .before .before .before .before .before .before .before .before .before .before .before .before .before in
-    ((at-start .pre) .0 .zone, (at-start .pre) .0 .rules-listed, (at-pieces .pieces .inv) .2, (at-pieces .pieces .inv) .0)
-
-enum-told : tie.Need-enum-told Inv-pieces μ-pieces
-enum-told c = search needs
+here-requires : tie.Need-here-requires Inv-pieces μ-pieces
+here-requires c κs =
+    let at-pieces = c .before in
+    stands-held (at-pieces .pieces .inv .0)
 
 enum-known-q : tie.Need-enum-known-q Inv-pieces μ-pieces
 enum-known-q c = search needs
@@ -82,10 +79,11 @@ cast-point-phase c = search needs
 point-phase-requires : tie.Need-point-phase-requires Inv-pieces μ-pieces
 point-phase-requires c κs =
     let at-q = c .before .before .before .before in
-    let at-pull = at-q .before .before in
-    let at-earlier2 = at-pull .before .before .before .before .before .before .before .before .before .before .before .before .before .before .before .before .before in
+    let at-here = at-q .before .before in
+    let at-pieces = at-here .before .before in
+    let at-earlier2 = at-pieces .before .before .before .before .before .before .before .before .before .before .before .before .before .before in
     let at-start = at-earlier2 .before .before .before .before .before .before .before .before .before .before .before in
-    ((come (((at-start .args .book) .now)) (((at-start .args .h) .first)) (((at-start .args .ats) .now)) (((at-start .args .offsets) .now)) (((at-start .args .rules) .now)) (((at-earlier2 .earlier2 .result))) _ _ _ ((at-pull .pull .ensures .0)) ((at-q .q .given) .1)) .fits .listed, (come (((at-start .args .book) .now)) (((at-start .args .h) .first)) (((at-start .args .ats) .now)) (((at-start .args .offsets) .now)) (((at-start .args .rules) .now)) (((at-earlier2 .earlier2 .result))) _ _ _ ((at-pull .pull .ensures .0)) ((at-q .q .given) .1)) .fits .point)
+    ((come ((at-start .args .book) .now) ((at-start .args .h) .first) ((at-start .args .ats) .now) ((at-start .args .offsets) .now) ((at-start .args .rules) .now) (at-earlier2 .earlier2 .result) ((at-start .pre) .0 .zone) _ _ _ (at-pieces .pieces .inv .0) (at-here .here .ensures) ((at-q .q .given) .1)) .fits .listed, (come ((at-start .args .book) .now) ((at-start .args .h) .first) ((at-start .args .ats) .now) ((at-start .args .offsets) .now) ((at-start .args .rules) .now) (at-earlier2 .earlier2 .result) ((at-start .pre) .0 .zone) _ _ _ (at-pieces .pieces .inv .0) (at-here .here .ensures) ((at-q .q .given) .1)) .fits .point)
 
 cast-stretch : tie.Need-cast-stretch Inv-pieces μ-pieces
 cast-stretch c = search needs
@@ -94,8 +92,8 @@ stretch-requires-2 : tie.Need-stretch-requires-2 Inv-pieces μ-pieces
 stretch-requires-2 c κs =
     let at-point-phase = c .before .before .before in
     let at-q = at-point-phase .before .before .before .before .before in
-    let at-pull = at-q .before .before in
-    let at-pieces = at-pull .before .before .before in
+    let at-here = at-q .before .before in
+    let at-pieces = at-here .before .before in
     let at-begin = at-pieces .before in
     let at-stretch = at-begin .before .before .before .before .before in
     let at-first-page = at-stretch .before .before .before .before in
@@ -104,26 +102,27 @@ stretch-requires-2 c κs =
     let at-later = at-earlier2 .before in
     let at-earlier = at-later .before in
     let at-start = at-earlier .before .before .before .before .before .before .before .before .before in
-    walked-coming (((at-start .args .book) .now)) (((at-start .args .h) .first)) (((at-start .args .ats) .now)) (((at-start .args .offsets) .now)) (((at-start .args .rules) .now)) (((at-earlier2 .earlier2 .result))) ((at-pieces .pieces .inv) .1) ((come (((at-start .args .book) .now)) (((at-start .args .h) .first)) (((at-start .args .ats) .now)) (((at-start .args .offsets) .now)) (((at-start .args .rules) .now)) (((at-earlier2 .earlier2 .result))) _ _ _ ((at-pull .pull .ensures .0)) ((at-q .q .given) .1))) ((at-point-phase .point-phase .ensures)) (rawOf (valuesAt ((at-start .args .book) .now) (at-start .args .h) ((at-start .args .ats) .now) ((at-start .args .offsets) .now) ((at-start .args .rules) .now) ((at-start .args .events) .now)) ((at-start .args .start) .0) ((at-start .args .end) .0)) (stretchOf (at-later2 .later2 .result) ((at-start .args .end) .0) unknown ∷ []) ((at-start .args .out) .now) ((venue-standing (((at-start .args .book) .now)) ((at-start .args .h)) (((at-start .args .ats) .now)) (((at-start .args .offsets) .now)) (((at-start .args .rules) .now)) ((at-start .args .events) .now) ((at-start .args .out) .now) ((at-start .pre) .1) ((at-start .pre) .2) ((at-start .pre) .3) ((at-first-page .first-page .ensures)) ((at-earlier .earlier .ensures)) ((at-stretch .stretch .ensures)) ((at-later .later .ensures)) ((at-earlier2 .earlier2 .ensures)) ((at-later2 .later2 .ensures)) ((at-begin .begin .ensures .0))))
+    walked-coming ((at-start .args .book) .now) ((at-start .args .h) .first) ((at-start .args .ats) .now) ((at-start .args .offsets) .now) ((at-start .args .rules) .now) (at-earlier2 .earlier2 .result) ((at-pieces .pieces .inv) .1) (come ((at-start .args .book) .now) ((at-start .args .h) .first) ((at-start .args .ats) .now) ((at-start .args .offsets) .now) ((at-start .args .rules) .now) (at-earlier2 .earlier2 .result) ((at-start .pre) .0 .zone) _ _ _ (at-pieces .pieces .inv .0) (at-here .here .ensures) ((at-q .q .given) .1)) (at-point-phase .point-phase .ensures) (rawOf (valuesAt ((at-start .args .book) .now) (at-start .args .h) ((at-start .args .ats) .now) ((at-start .args .offsets) .now) ((at-start .args .rules) .now) ((at-start .args .events) .now)) ((at-start .args .start) .0) ((at-start .args .end) .0)) (stretchOf (at-later2 .later2 .result) ((at-start .args .end) .0) unknown ∷ []) ((at-start .args .out) .now) (venue-standing ((at-start .args .book) .now) (at-start .args .h) ((at-start .args .ats) .now) ((at-start .args .offsets) .now) ((at-start .args .rules) .now) ((at-start .args .events) .now) ((at-start .args .out) .now) ((at-start .pre) .1) ((at-start .pre) .2) ((at-start .pre) .3) (at-first-page .first-page .ensures) (at-earlier .earlier .ensures) (at-stretch .stretch .ensures) (at-later .later .ensures) (at-earlier2 .earlier2 .ensures) (at-later2 .later2 .ensures) (at-begin .begin .ensures .0))
 
 behind-requires : tie.Need-behind-requires Inv-pieces μ-pieces
 behind-requires c κs =
     let at-q = c .before .before .before .before .before .before .before .before .before .before .before in
-    let at-pull = at-q .before .before in
-    let at-earlier2 = at-pull .before .before .before .before .before .before .before .before .before .before .before .before .before .before .before .before .before in
+    let at-here = at-q .before .before in
+    let at-pieces = at-here .before .before in
+    let at-earlier2 = at-pieces .before .before .before .before .before .before .before .before .before .before .before .before .before .before in
     let at-start = at-earlier2 .before .before .before .before .before .before .before .before .before .before .before in
-    omega (arith, (come (((at-start .args .book) .now)) (((at-start .args .h) .first)) (((at-start .args .ats) .now)) (((at-start .args .offsets) .now)) (((at-start .args .rules) .now)) (((at-earlier2 .earlier2 .result))) _ _ _ ((at-pull .pull .ensures .0)) ((at-q .q .given) .1)) .fits .point, good-rule (((at-start .args .book) .now)) _ ((come (((at-start .args .book) .now)) (((at-start .args .h) .first)) (((at-start .args .ats) .now)) (((at-start .args .offsets) .now)) (((at-start .args .rules) .now)) (((at-earlier2 .earlier2 .result))) _ _ _ ((at-pull .pull .ensures .0)) ((at-q .q .given) .1)) .fits .listed) .few)
+    omega (arith, (come ((at-start .args .book) .now) ((at-start .args .h) .first) ((at-start .args .ats) .now) ((at-start .args .offsets) .now) ((at-start .args .rules) .now) (at-earlier2 .earlier2 .result) ((at-start .pre) .0 .zone) _ _ _ (at-pieces .pieces .inv .0) (at-here .here .ensures) ((at-q .q .given) .1)) .fits .point, good-rule ((at-start .args .book) .now) _ ((come ((at-start .args .book) .now) ((at-start .args .h) .first) ((at-start .args .ats) .now) ((at-start .args .offsets) .now) ((at-start .args .rules) .now) (at-earlier2 .earlier2 .result) ((at-start .pre) .0 .zone) _ _ _ (at-pieces .pieces .inv .0) (at-here .here .ensures) ((at-q .q .given) .1)) .fits .listed) .few)
 
 pieces-less : tie.Need-pieces-less Inv-pieces μ-pieces
 pieces-less c =
     let at-behind = c in
     let at-point-phase = at-behind .before .before .before .before .before .before .before in
     let at-q = at-point-phase .before .before .before .before .before in
-    let at-pull = at-q .before .before in
-    let at-pieces = at-pull .before .before .before in
+    let at-here = at-q .before .before in
+    let at-pieces = at-here .before .before in
     let at-earlier2 = at-pieces .before .before .before .before .before .before .before .before .before .before .before .before .before .before in
     let at-start = at-earlier2 .before .before .before .before .before .before .before .before .before .before .before in
-    walked-less (((at-start .args .book) .now)) (((at-start .args .h) .first)) (((at-start .args .ats) .now)) (((at-start .args .offsets) .now)) (((at-start .args .rules) .now)) (((at-earlier2 .earlier2 .result))) ((at-pieces .pieces .inv) .1) ((come (((at-start .args .book) .now)) (((at-start .args .h) .first)) (((at-start .args .ats) .now)) (((at-start .args .offsets) .now)) (((at-start .args .rules) .now)) (((at-earlier2 .earlier2 .result))) _ _ _ ((at-pull .pull .ensures .0)) ((at-q .q .given) .1))) ((at-point-phase .point-phase .ensures)) ((at-behind .behind .ensures))
+    walked-less ((at-start .args .book) .now) ((at-start .args .h) .first) ((at-start .args .ats) .now) ((at-start .args .offsets) .now) ((at-start .args .rules) .now) (at-earlier2 .earlier2 .result) ((at-pieces .pieces .inv) .1) (come ((at-start .args .book) .now) ((at-start .args .h) .first) ((at-start .args .ats) .now) ((at-start .args .offsets) .now) ((at-start .args .rules) .now) (at-earlier2 .earlier2 .result) ((at-start .pre) .0 .zone) _ _ _ (at-pieces .pieces .inv .0) (at-here .here .ensures) ((at-q .q .given) .1)) (at-point-phase .point-phase .ensures) (at-behind .behind .ensures)
 
 pieces-again : tie.Need-pieces-again Inv-pieces μ-pieces
 pieces-again c =
@@ -131,17 +130,53 @@ pieces-again c =
     let at-stretch2 = at-behind .before .before .before in
     let at-point-phase = at-stretch2 .before .before .before .before in
     let at-q = at-point-phase .before .before .before .before .before in
-    let at-pull = at-q .before .before in
-    let at-pieces = at-pull .before .before .before in
+    let at-here = at-q .before .before in
+    let at-pieces = at-here .before .before in
     let at-earlier2 = at-pieces .before .before .before .before .before .before .before .before .before .before .before .before .before .before in
     let at-start = at-earlier2 .before .before .before .before .before .before .before .before .before .before .before in
-    (stands-on (((at-start .args .book) .now)) (((at-start .args .h) .first)) (((at-start .args .ats) .now)) (((at-start .args .offsets) .now)) (((at-start .args .rules) .now)) (((at-earlier2 .earlier2 .result))) ((at-behind .behind .ensures)) ((come (((at-start .args .book) .now)) (((at-start .args .h) .first)) (((at-start .args .ats) .now)) (((at-start .args .offsets) .now)) (((at-start .args .rules) .now)) (((at-earlier2 .earlier2 .result))) _ _ _ ((at-pull .pull .ensures .0)) ((at-q .q .given) .1)) .stands), walked-next (((at-start .args .book) .now)) (((at-start .args .h) .first)) (((at-start .args .ats) .now)) (((at-start .args .offsets) .now)) (((at-start .args .rules) .now)) (((at-earlier2 .earlier2 .result))) ((at-pieces .pieces .inv) .1) ((come (((at-start .args .book) .now)) (((at-start .args .h) .first)) (((at-start .args .ats) .now)) (((at-start .args .offsets) .now)) (((at-start .args .rules) .now)) (((at-earlier2 .earlier2 .result))) _ _ _ ((at-pull .pull .ensures .0)) ((at-q .q .given) .1))) ((at-point-phase .point-phase .ensures)) ((at-stretch2 .stretch2 .ensures)) ((at-behind .behind .ensures)), at-pull .pull .ensures .1)
+    (stands-on ((at-start .args .book) .now) ((at-start .args .h) .first) ((at-start .args .ats) .now) ((at-start .args .offsets) .now) ((at-start .args .rules) .now) (at-earlier2 .earlier2 .result) (at-behind .behind .ensures) ((come ((at-start .args .book) .now) ((at-start .args .h) .first) ((at-start .args .ats) .now) ((at-start .args .offsets) .now) ((at-start .args .rules) .now) (at-earlier2 .earlier2 .result) ((at-start .pre) .0 .zone) _ _ _ (at-pieces .pieces .inv .0) (at-here .here .ensures) ((at-q .q .given) .1)) .stands), walked-next ((at-start .args .book) .now) ((at-start .args .h) .first) ((at-start .args .ats) .now) ((at-start .args .offsets) .now) ((at-start .args .rules) .now) (at-earlier2 .earlier2 .result) ((at-pieces .pieces .inv) .1) (come ((at-start .args .book) .now) ((at-start .args .h) .first) ((at-start .args .ats) .now) ((at-start .args .offsets) .now) ((at-start .args .rules) .now) (at-earlier2 .earlier2 .result) ((at-start .pre) .0 .zone) _ _ _ (at-pieces .pieces .inv .0) (at-here .here .ensures) ((at-q .q .given) .1)) (at-point-phase .point-phase .ensures) (at-stretch2 .stretch2 .ensures) (at-behind .behind .ensures), (at-pieces .pieces .inv .2))
+
+enum-told : tie.Need-enum-told Inv-pieces μ-pieces
+enum-told c = search needs
+
+turn-on-requires : tie.Need-turn-on-requires Inv-pieces μ-pieces
+turn-on-requires c κs =
+    let at-enum-told = c .before .before in
+    let at-here = at-enum-told .before .before in
+    let at-pieces = at-here .before .before in
+    let at-earlier2 = at-pieces .before .before .before .before .before .before .before .before .before .before .before .before .before .before in
+    let at-start = at-earlier2 .before .before .before .before .before .before .before .before .before .before .before in
+    ((at-start .pre) .0 .zone, (at-start .pre) .0 .rules-listed, (at-pieces .pieces .inv .2), (shown ((at-start .args .book) .now) ((at-start .args .h) .first) ((at-start .args .ats) .now) ((at-start .args .offsets) .now) ((at-start .args .rules) .now) (at-earlier2 .earlier2 .result) ((at-start .pre) .0 .zone) _ _ _ (at-pieces .pieces .inv .0) (at-here .here .ensures) ((at-enum-told .enum-told .given) .1)))
+
+enum-told-2 : tie.Need-enum-told-2 Inv-pieces μ-pieces
+enum-told-2 c = search needs
+
+enum-known-next : tie.Need-enum-known-next Inv-pieces μ-pieces
+enum-known-next c = search needs
+
+pieces-less-2 : tie.Need-pieces-less-2 Inv-pieces μ-pieces
+pieces-less-2 c =
+    let at-next = c .before in
+    let at-turn-on = at-next .before .before in
+    let at-pieces = at-turn-on .before .before .before .before .before .before .before in
+    let at-earlier2 = at-pieces .before .before .before .before .before .before .before .before .before .before .before .before .before .before in
+    let at-start = at-earlier2 .before .before .before .before .before .before .before .before .before .before .before in
+    turn-less ((at-start .args .book) .now) ((at-start .args .h) .first) ((at-start .args .ats) .now) ((at-start .args .offsets) .now) ((at-start .args .rules) .now) (at-earlier2 .earlier2 .result) (at-pieces .pieces .inv .1) (turned ((at-start .args .book) .now) ((at-start .args .h) .first) ((at-start .args .ats) .now) ((at-start .args .offsets) .now) ((at-start .args .rules) .now) (at-earlier2 .earlier2 .result) _ _ _ (at-turn-on .turn-on .ensures .0) ((at-next .next .given) .1))
+
+pieces-again-2 : tie.Need-pieces-again-2 Inv-pieces μ-pieces
+pieces-again-2 c =
+    let at-next = c .before in
+    let at-turn-on = at-next .before .before in
+    let at-pieces = at-turn-on .before .before .before .before .before .before .before in
+    let at-earlier2 = at-pieces .before .before .before .before .before .before .before .before .before .before .before .before .before .before in
+    let at-start = at-earlier2 .before .before .before .before .before .before .before .before .before .before .before in
+    ((turned ((at-start .args .book) .now) ((at-start .args .h) .first) ((at-start .args .ats) .now) ((at-start .args .offsets) .now) ((at-start .args .rules) .now) (at-earlier2 .earlier2 .result) _ _ _ (at-turn-on .turn-on .ensures .0) ((at-next .next .given) .1)) .stands, turn-walked ((at-start .args .book) .now) ((at-start .args .h) .first) ((at-start .args .ats) .now) ((at-start .args .offsets) .now) ((at-start .args .rules) .now) (at-earlier2 .earlier2 .result) (at-pieces .pieces .inv .1) (turned ((at-start .args .book) .now) ((at-start .args .h) .first) ((at-start .args .ats) .now) ((at-start .args .offsets) .now) ((at-start .args .rules) .now) (at-earlier2 .earlier2 .result) _ _ _ (at-turn-on .turn-on .ensures .0) ((at-next .next .given) .1)), (at-turn-on .turn-on .ensures .1))
 
 stretch-requires-3 : tie.Need-stretch-requires-3 Inv-pieces μ-pieces
 stretch-requires-3 c κs =
-    let at-enum-told = c .before .before .before in
-    let at-pull = at-enum-told .before .before in
-    let at-pieces = at-pull .before .before .before in
+    let at-enum-told2 = c .before .before .before in
+    let at-turn-on = at-enum-told2 .before .before in
+    let at-pieces = at-turn-on .before .before .before .before .before .before .before in
     let at-begin = at-pieces .before in
     let at-stretch = at-begin .before .before .before .before .before in
     let at-first-page = at-stretch .before .before .before .before in
@@ -150,14 +185,14 @@ stretch-requires-3 c κs =
     let at-later = at-earlier2 .before in
     let at-earlier = at-later .before in
     let at-start = at-earlier .before .before .before .before .before .before .before .before .before in
-    done-coming (((at-start .args .book) .now)) (((at-start .args .h) .first)) (((at-start .args .ats) .now)) (((at-start .args .offsets) .now)) (((at-start .args .rules) .now)) (((at-earlier2 .earlier2 .result))) ((at-pieces .pieces .inv) .1) ((gone (((at-start .args .book) .now)) (((at-start .args .h) .first)) (((at-start .args .ats) .now)) (((at-start .args .offsets) .now)) (((at-start .args .rules) .now)) (((at-earlier2 .earlier2 .result))) _ _ _ ((at-pull .pull .ensures .0)) ((at-enum-told .enum-told .given) .1))) ((venue-standing (((at-start .args .book) .now)) ((at-start .args .h)) (((at-start .args .ats) .now)) (((at-start .args .offsets) .now)) (((at-start .args .rules) .now)) ((at-start .args .events) .now) ((at-start .args .out) .now) ((at-start .pre) .1) ((at-start .pre) .2) ((at-start .pre) .3) ((at-first-page .first-page .ensures)) ((at-earlier .earlier .ensures)) ((at-stretch .stretch .ensures)) ((at-later .later .ensures)) ((at-earlier2 .earlier2 .ensures)) ((at-later2 .later2 .ensures)) ((at-begin .begin .ensures .0))))
+    done-coming ((at-start .args .book) .now) ((at-start .args .h) .first) ((at-start .args .ats) .now) ((at-start .args .offsets) .now) ((at-start .args .rules) .now) (at-earlier2 .earlier2 .result) ((at-pieces .pieces .inv) .1) (gone ((at-start .args .book) .now) ((at-start .args .h) .first) ((at-start .args .ats) .now) ((at-start .args .offsets) .now) ((at-start .args .rules) .now) (at-earlier2 .earlier2 .result) _ _ _ (at-turn-on .turn-on .ensures .0) ((at-enum-told2 .enum-told2 .given) .1)) (venue-standing ((at-start .args .book) .now) (at-start .args .h) ((at-start .args .ats) .now) ((at-start .args .offsets) .now) ((at-start .args .rules) .now) ((at-start .args .events) .now) ((at-start .args .out) .now) ((at-start .pre) .1) ((at-start .pre) .2) ((at-start .pre) .3) (at-first-page .first-page .ensures) (at-earlier .earlier .ensures) (at-stretch .stretch .ensures) (at-later .later .ensures) (at-earlier2 .earlier2 .ensures) (at-later2 .later2 .ensures) (at-begin .begin .ensures .0))
 
 finish-requires : tie.Need-finish-requires Inv-pieces μ-pieces
 finish-requires c κs =
     let at-stretch3 = c .before .before .before .before .before in
-    let at-enum-told = at-stretch3 .before .before .before .before in
-    let at-pull = at-enum-told .before .before in
-    let at-pieces = at-pull .before .before .before in
+    let at-enum-told2 = at-stretch3 .before .before .before .before in
+    let at-turn-on = at-enum-told2 .before .before in
+    let at-pieces = at-turn-on .before .before .before .before .before .before .before in
     let at-begin = at-pieces .before in
     let at-stretch = at-begin .before .before .before .before .before in
     let at-first-page = at-stretch .before .before .before .before in
@@ -166,23 +201,23 @@ finish-requires c κs =
     let at-later = at-earlier2 .before in
     let at-earlier = at-later .before in
     let at-start = at-earlier .before .before .before .before .before .before .before .before .before in
-    done-ending (((at-start .args .book) .now)) (((at-start .args .h) .first)) (((at-start .args .ats) .now)) (((at-start .args .offsets) .now)) (((at-start .args .rules) .now)) (((at-earlier2 .earlier2 .result))) ((at-pieces .pieces .inv) .1) ((gone (((at-start .args .book) .now)) (((at-start .args .h) .first)) (((at-start .args .ats) .now)) (((at-start .args .offsets) .now)) (((at-start .args .rules) .now)) (((at-earlier2 .earlier2 .result))) _ _ _ ((at-pull .pull .ensures .0)) ((at-enum-told .enum-told .given) .1))) ((venue-standing (((at-start .args .book) .now)) ((at-start .args .h)) (((at-start .args .ats) .now)) (((at-start .args .offsets) .now)) (((at-start .args .rules) .now)) ((at-start .args .events) .now) ((at-start .args .out) .now) ((at-start .pre) .1) ((at-start .pre) .2) ((at-start .pre) .3) ((at-first-page .first-page .ensures)) ((at-earlier .earlier .ensures)) ((at-stretch .stretch .ensures)) ((at-later .later .ensures)) ((at-earlier2 .earlier2 .ensures)) ((at-later2 .later2 .ensures)) ((at-begin .begin .ensures .0)))) ((at-stretch3 .stretch3 .ensures))
+    done-ending ((at-start .args .book) .now) ((at-start .args .h) .first) ((at-start .args .ats) .now) ((at-start .args .offsets) .now) ((at-start .args .rules) .now) (at-earlier2 .earlier2 .result) ((at-pieces .pieces .inv) .1) (gone ((at-start .args .book) .now) ((at-start .args .h) .first) ((at-start .args .ats) .now) ((at-start .args .offsets) .now) ((at-start .args .rules) .now) (at-earlier2 .earlier2 .result) _ _ _ (at-turn-on .turn-on .ensures .0) ((at-enum-told2 .enum-told2 .given) .1)) (venue-standing ((at-start .args .book) .now) (at-start .args .h) ((at-start .args .ats) .now) ((at-start .args .offsets) .now) ((at-start .args .rules) .now) ((at-start .args .events) .now) ((at-start .args .out) .now) ((at-start .pre) .1) ((at-start .pre) .2) ((at-start .pre) .3) (at-first-page .first-page .ensures) (at-earlier .earlier .ensures) (at-stretch .stretch .ensures) (at-later .later .ensures) (at-earlier2 .earlier2 .ensures) (at-later2 .later2 .ensures) (at-begin .begin .ensures .0)) (at-stretch3 .stretch3 .ensures)
 
 same-length : tie.Need-same-length Inv-pieces μ-pieces
 same-length c =
     let at-finish = c .before .before in
     let at-stretch3 = at-finish .before .before .before .before .before .before in
-    let at-pieces = at-stretch3 .before .before .before .before .before .before .before .before .before in
+    let at-pieces = at-stretch3 .before .before .before .before .before .before .before .before .before .before .before .before .before in
     let at-stretch = at-pieces .before .before .before .before .before .before in
-    ((at-finish .finish .ensures)) .kept ∙ ((at-stretch3 .stretch3 .ensures)) .kept ∙ ((at-pieces .pieces .inv) .1) .kept ∙ ((at-stretch .stretch .ensures)) .kept
+    (at-finish .finish .ensures) .kept ∙ (at-stretch3 .stretch3 .ensures) .kept ∙ ((at-pieces .pieces .inv) .1) .kept ∙ (at-stretch .stretch .ensures) .kept
 
 returns : tie.Need-returns Inv-pieces μ-pieces
 returns c =
     let at-finish = c .before .before in
     let at-stretch3 = at-finish .before .before .before .before .before .before in
-    let at-enum-told = at-stretch3 .before .before .before .before in
-    let at-pull = at-enum-told .before .before in
-    let at-pieces = at-pull .before .before .before in
+    let at-enum-told2 = at-stretch3 .before .before .before .before in
+    let at-turn-on = at-enum-told2 .before .before in
+    let at-pieces = at-turn-on .before .before .before .before .before .before .before in
     let at-begin = at-pieces .before in
     let at-stretch = at-begin .before .before .before .before .before in
     let at-first-page = at-stretch .before .before .before .before in
@@ -191,7 +226,7 @@ returns c =
     let at-later = at-earlier2 .before in
     let at-earlier = at-later .before in
     let at-start = at-earlier .before .before .before .before .before .before .before .before .before in
-    done-put (((at-start .args .book) .now)) (((at-start .args .h) .first)) (((at-start .args .ats) .now)) (((at-start .args .offsets) .now)) (((at-start .args .rules) .now)) (((at-earlier2 .earlier2 .result))) ((at-pieces .pieces .inv) .1) ((gone (((at-start .args .book) .now)) (((at-start .args .h) .first)) (((at-start .args .ats) .now)) (((at-start .args .offsets) .now)) (((at-start .args .rules) .now)) (((at-earlier2 .earlier2 .result))) _ _ _ ((at-pull .pull .ensures .0)) ((at-enum-told .enum-told .given) .1))) ((venue-standing (((at-start .args .book) .now)) ((at-start .args .h)) (((at-start .args .ats) .now)) (((at-start .args .offsets) .now)) (((at-start .args .rules) .now)) ((at-start .args .events) .now) ((at-start .args .out) .now) ((at-start .pre) .1) ((at-start .pre) .2) ((at-start .pre) .3) ((at-first-page .first-page .ensures)) ((at-earlier .earlier .ensures)) ((at-stretch .stretch .ensures)) ((at-later .later .ensures)) ((at-earlier2 .earlier2 .ensures)) ((at-later2 .later2 .ensures)) ((at-begin .begin .ensures .0)))) ((at-stretch3 .stretch3 .ensures)) ((at-finish .finish .ensures))
+    done-put ((at-start .args .book) .now) ((at-start .args .h) .first) ((at-start .args .ats) .now) ((at-start .args .offsets) .now) ((at-start .args .rules) .now) (at-earlier2 .earlier2 .result) ((at-pieces .pieces .inv) .1) (gone ((at-start .args .book) .now) ((at-start .args .h) .first) ((at-start .args .ats) .now) ((at-start .args .offsets) .now) ((at-start .args .rules) .now) (at-earlier2 .earlier2 .result) _ _ _ (at-turn-on .turn-on .ensures .0) ((at-enum-told2 .enum-told2 .given) .1)) (venue-standing ((at-start .args .book) .now) (at-start .args .h) ((at-start .args .ats) .now) ((at-start .args .offsets) .now) ((at-start .args .rules) .now) ((at-start .args .events) .now) ((at-start .args .out) .now) ((at-start .pre) .1) ((at-start .pre) .2) ((at-start .pre) .3) (at-first-page .first-page .ensures) (at-earlier .earlier .ensures) (at-stretch .stretch .ensures) (at-later .later .ensures) (at-earlier2 .earlier2 .ensures) (at-later2 .later2 .ensures) (at-begin .begin .ensures .0)) (at-stretch3 .stretch3 .ensures) (at-finish .finish .ensures)
 
 pub put-tallies-spec : {M : Type 1} → statement M
 put-tallies-spec =
@@ -208,8 +243,7 @@ put-tallies-spec =
     sub-begin
     begin-requires
     pieces-holds
-    pull-requires
-    enum-told
+    here-requires
     enum-known-q
     cast-point-phase
     point-phase-requires
@@ -218,6 +252,12 @@ put-tallies-spec =
     behind-requires
     pieces-less
     pieces-again
+    enum-told
+    turn-on-requires
+    enum-told-2
+    enum-known-next
+    pieces-less-2
+    pieces-again-2
     stretch-requires-3
     finish-requires
     same-length

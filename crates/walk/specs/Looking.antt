@@ -1,0 +1,77 @@
+-- A step of the walk, as its two functions take it: what of the date at hand shows, and where a date leads that shows no more. Assumes nothing.
+use Prim.Native.Nat.{ℕ, _+_, _≤_, _<_, min, max}
+use mathlib.Core.Path.{_≡_}
+use mathlib.Core.List.{List, []}
+use lib.ListN.{length, getD}
+use Rattle.zone.specs.Zone.{Zone}
+use Rattle.records.specs.Records.{ruleAt}
+use Rattle.venue.specs.Reading.{Listed}
+use Rattle.spans.specs.Spans.{clip}
+use Rattle.spans.specs.Timeline.{Venue}
+use Rattle.day.specs.Days.{Held}
+use Rattle.day.specs.declared.Governed.{Governed}
+use Rattle.day.specs.declared.Governed.the-variants.{Nothing, By}
+use Rattle.walk.specs.Walking.{onDate, rest, Stands, Showing}
+use Rattle.walk.specs.declared.Walk.{Walk}
+use Rattle.walk.specs.declared.Piece.{Piece}
+use Rattle.walk.specs.declared.Pulled.{Pulled}
+use Rattle.walk.specs.declared.Pulled.the-variants.{Done, Next}
+use Rattle.walk.specs.declared.Turned.{Turned}
+use Rattle.walk.specs.declared.Turned.the-variants.{Done as Turned·Done, On}
+
+-- ---- the date at hand
+
+-- the date's rule is one of the book, and the next of its spans one that it can have
+abbrev pub RuleHeld : List ℕ → ℕ → Governed → Type 0
+RuleHeld s k Nothing = Unit {0}
+RuleHeld s k (By p) = Listed 3 s p × (k ≤ length (ruleAt s p .points))
+
+abbrev pub Holds : List ℕ → Walk → Type 0
+Holds s w = RuleHeld s (w .next) (w .governed)
+
+-- what shows of the k-th span of the date, by the boundaries in the array
+abbrev pub pieceAt : List ℕ → ℕ → Walk → ℕ → ℕ → Piece
+pieceAt a hi w p k =
+    record {
+      from = record { 0 = max (w .cursor .0) (getD a k 0) };
+      to = record { 0 = min hi (getD a (k + 1) 0) };
+      start = record { 0 = getD a k 0 };
+      end = record { 0 = getD a (k + 1) 0 };
+      date = w .date;
+      rule = p;
+      point = k;
+      calm = w .calm;
+      turns = w .turns;
+      began = w .began;
+    }
+
+-- by the boundaries in the array none of the date's spans shows
+abbrev pub NoneShows : List ℕ → List ℕ → ℕ → Walk → Governed → Type 0
+NoneShows s a hi w Nothing = Unit {0}
+NoneShows s a hi w (By p) = Showing a (w .next) (length (ruleAt s p .points)) (w .cursor .0) hi (length (ruleAt s p .points))
+
+-- the k-th is the first that does
+pub record FirstShows (s a : List ℕ) (hi : ℕ) (w : Walk) (q : Piece) (p k : ℕ) : Type 0 where
+  pub by : w .governed ≡ By p
+  pub inside : k < length (ruleAt s p .points)
+  pub first : Showing a (w .next) (length (ruleAt s p .points)) (w .cursor .0) hi k
+  pub is : q ≡ pieceAt a hi w p k
+
+abbrev pub Looked : List ℕ → List ℕ → ℕ → Walk → Pulled → Type 0
+Looked s a hi w Done = NoneShows s a hi w (w .governed)
+Looked s a hi w (Next q) = (p : ℕ) × ((k : ℕ) × FirstShows s a hi w q p k)
+
+-- none of the date's spans shows
+abbrev pub Shown : List ℕ → Zone → ℕ → Walk → Type 0
+Shown s z hi w = clip (w .cursor .0) hi (onDate s z (w .date .0) (w .next) (w .governed)) ≡ []
+
+-- ---- where it leads: nothing is left, or the next turn stands, as much is left there, and it has fewer turns to go
+
+pub record LeadsOn (s : List ℕ) (z : Zone) (v : Venue Held) (hi : ℕ) (w w′ : Walk) (a : List ℕ) : Type 0 where
+  pub same : rest s z v hi w ≡ rest s z v hi w′
+  pub stands : Stands s z w′ a
+  pub fewer : w′ .turns < w .turns
+
+abbrev pub Leads : List ℕ → Zone → Venue Held → ℕ → Walk → Turned → List ℕ → Type 0
+Leads s z v hi w Turned·Done a = rest s z v hi w ≡ []
+Leads s z v hi w (On w′) a = LeadsOn s z v hi w w′ a
