@@ -29,7 +29,12 @@ returns c =
     let at-rule-evidence = at-rule-derived .before in
     let at-rule-label = at-rule-evidence .before in
     let at-rule-code = at-rule-label .before in
-    rw ((at-rule-code .rule-code .ensures) .0, (at-rule-label .rule-label .ensures), (at-rule-evidence .rule-evidence .ensures), (at-rule-derived .rule-derived .ensures))
+    rw (
+      (at-rule-code .rule-code .ensures .0),
+      (at-rule-label .rule-label .ensures),
+      (at-rule-evidence .rule-evidence .ensures),
+      (at-rule-derived .rule-derived .ensures),
+    )
 
 pub phase-of-spec : {M : Type 1} → statement M
 phase-of-spec =

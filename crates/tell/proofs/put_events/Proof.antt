@@ -11,7 +11,9 @@ use Rattle.tell.proofs.put_events.Tie as tie
 returns : tie.Need-returns
 returns c =
     let at-start = c .before .before .before .before .before .before in
-    put-none ((at-start .args .out) .now) (at-start .args .at) (none-found (zoneOf (at-start .args .first) ((at-start .args .ats) .now) ((at-start .args .offsets) .now)) ((at-start .args .book) .now) ((at-start .args .events) .now) ((at-start .args .from) .0) ((at-start .args .to) .0) (omega (arith, c .if1 .taken)))
+    let args = at-start .args in
+    put-none (args .out .now) (args .at) (none-found (zoneOf (args .first) (args .ats .now) (args .offsets .now)) (args .book .now)
+    (args .events .now) (args .from .0) (args .to .0) (omega (arith, c .if1 .taken)))
 
 put-kept-requires : tie.Need-put-kept-requires
 put-kept-requires c κs =
@@ -33,7 +35,9 @@ returns-4 c =
     let at-n = at-if2 .before .before in
     let at-collect = at-n .before .before .before .before in
     let at-start = at-collect .before .before .before .before .before .before .before .before .before in
-    let held = collects-all ((at-start .args .book) .now) (at-start .args .first) ((at-start .args .ats) .now) ((at-start .args .offsets) .now) ((at-start .args .events) .now) (at-start .pre .0) (at-start .pre .1) (at-start .args .from .0) (at-start .args .to .0) (at-collect .collect .ensures) (at-n .n .given .1) in
+    let args = at-start .args in
+    let held = collects-all (args .book .now) (args .first) (args .ats .now) (args .offsets .now) (args .events .now) (at-start .pre .0)
+    (at-start .pre .1) (args .from .0) (args .to .0) (at-collect .collect .ensures) (at-n .n .given .1) in
     held-put held (at-if2 .if2 .left) (at-if2 .if2 .left) (at-put-kept .put-kept .ensures)
 
 pub put-events-spec : {M : Type 1} → statement M

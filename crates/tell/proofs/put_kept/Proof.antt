@@ -14,41 +14,52 @@ abbrev μ-loop : tie.MeasureT-loop
 loop-holds : tie.Need-loop-holds Inv-loop μ-loop
 loop-holds c =
     let at-start = c .before .before .before .before .before in
-    turn-start ((at-start .args .book) .now) ((at-start .args .when) .now) ((at-start .args .which) .now) (at-start .args .n) ((at-start .args .out) .now) (at-start .args .at) (at-start .pre .3) (c .next-kept .ensures)
+    let args = at-start .args in
+    turn-start (args .book .now) (args .when .now) (args .which .now) (args .n) (args .out .now) (args .at) (at-start .pre .3) (c .next-kept .ensures)
 
 mul-t15 : tie.Need-mul-t15 Inv-loop μ-loop
 mul-t15 c =
     let at-loop = c .before in
     let at-start = at-loop .before .before .before .before .before .before in
-    let l = turn-next ((at-start .args .book) .now) ((at-start .args .when) .now) ((at-start .args .which) .now) (at-start .args .n) ((at-start .args .out) .now) (at-start .args .at) (at-loop .loop .inv) (c .loop-test .taken) in
+    let args = at-start .args in
+    let l = turn-next (args .book .now) (args .when .now) (args .which .now) (args .n) (args .out .now) (args .at) (at-loop .loop .inv)
+    (c .loop-test .taken) in
     omega (arith, l, at-start .pre .0)
 
 shared-slice-read-t17 : tie.Need-shared-slice-read-t17 Inv-loop μ-loop
 shared-slice-read-t17 c =
     let at-loop = c .before .before in
     let at-start = at-loop .before .before .before .before .before .before in
-    let l = turn-next ((at-start .args .book) .now) ((at-start .args .when) .now) ((at-start .args .which) .now) (at-start .args .n) ((at-start .args .out) .now) (at-start .args .at) (at-loop .loop .inv) (c .before .loop-test .taken) in
+    let args = at-start .args in
+    let l = turn-next (args .book .now) (args .when .now) (args .which .now) (args .n) (args .out .now) (args .at) (at-loop .loop .inv)
+    (c .before .loop-test .taken) in
     omega (arith, l, at-start .pre .0)
 
 mul-event : tie.Need-mul-event Inv-loop μ-loop
 mul-event c =
     let at-loop = c .before .before in
     let at-start = at-loop .before .before .before .before .before .before in
-    let l = turn-next ((at-start .args .book) .now) ((at-start .args .when) .now) ((at-start .args .which) .now) (at-start .args .n) ((at-start .args .out) .now) (at-start .args .at) (at-loop .loop .inv) (c .before .loop-test .taken) in
+    let args = at-start .args in
+    let l = turn-next (args .book .now) (args .when .now) (args .which .now) (args .n) (args .out .now) (args .at) (at-loop .loop .inv)
+    (c .before .loop-test .taken) in
     omega (arith, l, at-start .pre .1)
 
 shared-slice-read-event : tie.Need-shared-slice-read-event Inv-loop μ-loop
 shared-slice-read-event c =
     let at-loop = c .before .before .before in
     let at-start = at-loop .before .before .before .before .before .before in
-    let l = turn-next ((at-start .args .book) .now) ((at-start .args .when) .now) ((at-start .args .which) .now) (at-start .args .n) ((at-start .args .out) .now) (at-start .args .at) (at-loop .loop .inv) (c .before .before .loop-test .taken) in
+    let args = at-start .args in
+    let l = turn-next (args .book .now) (args .when .now) (args .which .now) (args .n) (args .out .now) (args .at) (at-loop .loop .inv)
+    (c .before .before .loop-test .taken) in
     omega (arith, l, at-start .pre .1)
 
 cast-event : tie.Need-cast-event Inv-loop μ-loop
 cast-event c =
     let at-loop = c .before .before .before in
     let at-start = at-loop .before .before .before .before .before .before in
-    let l = turn-next ((at-start .args .book) .now) ((at-start .args .when) .now) ((at-start .args .which) .now) (at-start .args .n) ((at-start .args .out) .now) (at-start .args .at) (at-loop .loop .inv) (c .before .before .loop-test .taken) in
+    let args = at-start .args in
+    let l = turn-next (args .book .now) (args .when .now) (args .which .now) (args .n) (args .out .now) (args .at) (at-loop .loop .inv)
+    (c .before .before .loop-test .taken) in
     let e = at-start .pre .2 (at-loop .loop .next) l in
     omega (arith, e .small, e .frame)
 
@@ -56,34 +67,44 @@ event-uncertainty-requires : tie.Need-event-uncertainty-requires Inv-loop μ-loo
 event-uncertainty-requires c κs =
     let at-loop = c .before .before .before in
     let at-start = at-loop .before .before .before .before .before .before in
-    let l = turn-next ((at-start .args .book) .now) ((at-start .args .when) .now) ((at-start .args .which) .now) (at-start .args .n) ((at-start .args .out) .now) (at-start .args .at) (at-loop .loop .inv) (c .before .before .loop-test .taken) in
+    let args = at-start .args in
+    let l = turn-next (args .book .now) (args .when .now) (args .which .now) (args .n) (args .out .now) (args .at) (at-loop .loop .inv)
+    (c .before .before .loop-test .taken) in
     at-start .pre .2 (at-loop .loop .next) l
 
 event-code-requires : tie.Need-event-code-requires Inv-loop μ-loop
 event-code-requires c κs =
     let at-loop = c .before .before .before .before .before in
     let at-start = at-loop .before .before .before .before .before .before in
-    let l = turn-next ((at-start .args .book) .now) ((at-start .args .when) .now) ((at-start .args .which) .now) (at-start .args .n) ((at-start .args .out) .now) (at-start .args .at) (at-loop .loop .inv) (c .before .before .before .before .loop-test .taken) in
+    let args = at-start .args in
+    let l = turn-next (args .book .now) (args .when .now) (args .which .now) (args .n) (args .out .now) (args .at) (at-loop .loop .inv)
+    (c .before .before .before .before .loop-test .taken) in
     at-start .pre .2 (at-loop .loop .next) l
 
 event-evidence-requires : tie.Need-event-evidence-requires Inv-loop μ-loop
 event-evidence-requires c κs =
     let at-loop = c .before .before .before .before .before .before in
     let at-start = at-loop .before .before .before .before .before .before in
-    let l = turn-next ((at-start .args .book) .now) ((at-start .args .when) .now) ((at-start .args .which) .now) (at-start .args .n) ((at-start .args .out) .now) (at-start .args .at) (at-loop .loop .inv) (c .before .before .before .before .before .loop-test .taken) in
+    let args = at-start .args in
+    let l = turn-next (args .book .now) (args .when .now) (args .which .now) (args .n) (args .out .now) (args .at) (at-loop .loop .inv)
+    (c .before .before .before .before .before .loop-test .taken) in
     at-start .pre .2 (at-loop .loop .next) l
 
 put-event-requires : tie.Need-put-event-requires Inv-loop μ-loop
 put-event-requires c κs =
     let at-loop = c .before .before .before .before .before .before .before in
     let at-start = at-loop .before .before .before .before .before .before in
-    turn-room ((at-start .args .book) .now) ((at-start .args .when) .now) ((at-start .args .which) .now) (at-start .args .n) ((at-start .args .out) .now) (at-start .args .at) (at-loop .loop .inv) (c .before .before .before .before .before .before .loop-test .taken)
+    let args = at-start .args in
+    turn-room (args .book .now) (args .when .now) (args .which .now) (args .n) (args .out .now) (args .at) (at-loop .loop .inv)
+    (c .before .before .before .before .before .before .loop-test .taken)
 
 add-next-kept : tie.Need-add-next-kept Inv-loop μ-loop
 add-next-kept c =
     let at-loop = c .before .before .before .before .before .before .before .before .before .before in
     let at-start = at-loop .before .before .before .before .before .before in
-    let l = turn-next ((at-start .args .book) .now) ((at-start .args .when) .now) ((at-start .args .which) .now) (at-start .args .n) ((at-start .args .out) .now) (at-start .args .at) (at-loop .loop .inv) (c .before .before .before .before .before .before .before .before .before .loop-test .taken) in
+    let args = at-start .args in
+    let l = turn-next (args .book .now) (args .when .now) (args .which .now) (args .n) (args .out .now) (args .at) (at-loop .loop .inv)
+    (c .before .before .before .before .before .before .before .before .before .loop-test .taken) in
     omega (arith, l)
 
 next-kept-requires-2 : tie.Need-next-kept-requires-2 Inv-loop μ-loop
@@ -111,14 +132,17 @@ loop-again c =
     let at-loop-test = at-event-uncertainty .before .before .before in
     let at-loop = at-loop-test .before in
     let at-start = at-loop .before .before .before .before .before .before in
-    turn-one ((at-start .args .book) .now) ((at-start .args .when) .now) ((at-start .args .which) .now) (at-start .args .n) ((at-start .args .out) .now) (at-start .args .at) (at-loop .loop .inv) (at-loop-test .loop-test .taken)
-    (at-event-uncertainty .event-uncertainty .ensures) (at-event-code .event-code .ensures) (at-event-evidence .event-evidence .ensures) (at-put-event .put-event .ensures) (c .next-kept2 .ensures)
+    let args = at-start .args in
+    turn-one (args .book .now) (args .when .now) (args .which .now) (args .n) (args .out .now) (args .at) (at-loop .loop .inv)
+    (at-loop-test .loop-test .taken) (at-event-uncertainty .event-uncertainty .ensures) (at-event-code .event-code .ensures)
+    (at-event-evidence .event-evidence .ensures) (at-put-event .put-event .ensures) (c .next-kept2 .ensures)
 
 returns : tie.Need-returns Inv-loop μ-loop
 returns c =
     let at-loop = c .before in
     let at-start = at-loop .before .before .before .before .before .before in
-    turn-end ((at-start .args .book) .now) ((at-start .args .when) .now) ((at-start .args .which) .now) (at-start .args .n) ((at-start .args .out) .now) (at-start .args .at) (at-loop .loop .inv) (c .loop-test .left)
+    let args = at-start .args in
+    turn-end (args .book .now) (args .when .now) (args .which .now) (args .n) (args .out .now) (args .at) (at-loop .loop .inv) (c .loop-test .left)
 
 pub put-kept-spec : {M : Type 1} → statement M
 put-kept-spec =

@@ -30,7 +30,13 @@ loop-holds : tie.Need-loop-holds Inv-loop μ-loop
 loop-holds c =
     let at-search-events = c in
     let at-start = at-search-events .before .before .before .before .before .before in
-    (begun-count 0 0 (found (zoneOf (at-start .args .first) ((at-start .args .ats) .now) ((at-start .args .offsets) .now)) (map (eventAt ((at-start .args .book) .now)) ((at-start .args .events) .now)) ((at-start .args .from) .0) ((at-start .args .to) .0)) ((at-search-events .search-events .ensures) .0), trail-start (found (zoneOf (at-start .args .first) ((at-start .args .ats) .now) ((at-start .args .offsets) .now)) (map (eventAt ((at-start .args .book) .now)) ((at-start .args .events) .now)) ((at-start .args .from) .0) ((at-start .args .to) .0)) ((at-start .args .out) .now) (at-start .args .at) ((at-start .pre) .3) (ap (λ (s : Search). s .best) ((at-search-events .search-events .ensures) .0)))
+    let args = at-start .args in
+    let es = found (zoneOf (args .first) (args .ats .now) (args .offsets .now)) (map (eventAt (args .book .now)) (args .events .now)) (args .from .0)
+    (args .to .0) in (
+      begun-count 0 0 es (at-search-events .search-events .ensures .0),
+      trail-start es (args .out .now) (args .at) (at-start .pre .3)
+          (ap (λ (s : Search). s .best) (at-search-events .search-events .ensures .0)),
+    )
 
 same-length : tie.Need-same-length Inv-loop μ-loop
 same-length c =
@@ -42,7 +48,9 @@ returns c =
     let at-enum-told = c in
     let at-loop = at-enum-told .before .before .before in
     let at-start = at-loop .before .before .before .before .before .before .before in
-    trail-none (found (zoneOf (at-start .args .first) ((at-start .args .ats) .now) ((at-start .args .offsets) .now)) (map (eventAt ((at-start .args .book) .now)) ((at-start .args .events) .now)) ((at-start .args .from) .0) ((at-start .args .to) .0)) ((at-start .args .out) .now) (at-start .args .at) ((at-loop .loop .inv) .1) ((at-enum-told .enum-told .given) .1)
+    let args = at-start .args in
+    trail-none (found (zoneOf (args .first) (args .ats .now) (args .offsets .now)) (map (eventAt (args .book .now)) (args .events .now))
+    (args .from .0) (args .to .0)) (args .out .now) (args .at) (at-loop .loop .inv .1) (at-enum-told .enum-told .given .1)
 
 put-event-requires : tie.Need-put-event-requires Inv-loop μ-loop
 put-event-requires c κs =
@@ -50,7 +58,10 @@ put-event-requires c κs =
     let at-loop-test = at-best .before .before in
     let at-loop = at-loop-test .before in
     let at-start = at-loop .before .before .before .before .before .before .before in
-    trail-room (found (zoneOf (at-start .args .first) ((at-start .args .ats) .now) ((at-start .args .offsets) .now)) (map (eventAt ((at-start .args .book) .now)) ((at-start .args .events) .now)) ((at-start .args .from) .0) ((at-start .args .to) .0)) ((at-start .args .out) .now) (at-start .args .at) ((at-loop .loop .inv) .1) (omega (arith, (at-loop-test .loop-test .taken), (at-loop .loop .inv) .0)) _ _ ((at-best .best .given) .1)
+    let args = at-start .args in
+    trail-room (found (zoneOf (args .first) (args .ats .now) (args .offsets .now)) (map (eventAt (args .book .now)) (args .events .now))
+    (args .from .0) (args .to .0)) (args .out .now) (args .at) (at-loop .loop .inv .1)
+    (omega (arith, (at-loop-test .loop-test .taken), (at-loop .loop .inv .0))) _ _ (at-best .best .given .1)
 
 add-search-events : tie.Need-add-search-events Inv-loop μ-loop
 add-search-events c =
@@ -59,7 +70,15 @@ add-search-events c =
     let at-loop = at-loop-test .before in
     let at-search-events = at-loop .before in
     let at-start = at-search-events .before .before .before .before .before .before in
-    omega (arith, trail-index (found (zoneOf (at-start .args .first) ((at-start .args .ats) .now) ((at-start .args .offsets) .now)) (map (eventAt ((at-start .args .book) .now)) ((at-start .args .events) .now)) ((at-start .args .from) .0) ((at-start .args .to) .0)) ((at-start .args .out) .now) (at-start .args .at) ((at-loop .loop .inv) .1) (omega (arith, (at-loop-test .loop-test .taken), (at-loop .loop .inv) .0)) _ _ ((at-best .best .given) .1), (at-loop .loop .inv) .0, (at-search-events .search-events .ensures) .1)
+    let args = at-start .args in
+    omega (
+      arith,
+      trail-index (found (zoneOf (args .first) (args .ats .now) (args .offsets .now))
+          (map (eventAt (args .book .now)) (args .events .now)) (args .from .0) (args .to .0)) (args .out .now) (args .at) (at-loop .loop .inv .1)
+          (omega (arith, (at-loop-test .loop-test .taken), (at-loop .loop .inv .0))) _ _ (at-best .best .given .1),
+      (at-loop .loop .inv .0),
+      (at-search-events .search-events .ensures .1),
+    )
 
 search-events-requires-2 : tie.Need-search-events-requires-2 Inv-loop μ-loop
 search-events-requires-2 c κs =
@@ -84,7 +103,13 @@ loop-again c =
     let at-loop-test = at-best .before .before in
     let at-loop = at-loop-test .before in
     let at-start = at-loop .before .before .before .before .before .before .before in
-    ((at-loop .loop .inv) .0, trail-one (found (zoneOf (at-start .args .first) ((at-start .args .ats) .now) ((at-start .args .offsets) .now)) (map (eventAt ((at-start .args .book) .now)) ((at-start .args .events) .now)) ((at-start .args .from) .0) ((at-start .args .to) .0)) ((at-start .args .out) .now) (at-start .args .at) ((at-loop .loop .inv) .1) (omega (arith, (at-loop-test .loop-test .taken), (at-loop .loop .inv) .0)) _ _ ((at-best .best .given) .1) (at-put-event .put-event .ensures) (ap (λ (s : Search). s .best) ((at-search-events2 .search-events2 .ensures) .0)))
+    let args = at-start .args in (
+      (at-loop .loop .inv .0),
+      trail-one (found (zoneOf (args .first) (args .ats .now) (args .offsets .now))
+          (map (eventAt (args .book .now)) (args .events .now)) (args .from .0) (args .to .0)) (args .out .now) (args .at) (at-loop .loop .inv .1)
+          (omega (arith, (at-loop-test .loop-test .taken), (at-loop .loop .inv .0))) _ _ (at-best .best .given .1) (at-put-event .put-event .ensures)
+          (ap (λ (s : Search). s .best) (at-search-events2 .search-events2 .ensures .0)),
+    )
 
 same-length-2 : tie.Need-same-length-2 Inv-loop μ-loop
 same-length-2 c =
@@ -96,7 +121,10 @@ returns-2 c =
     let at-loop-test = c in
     let at-loop = at-loop-test .before in
     let at-start = at-loop .before .before .before .before .before .before .before in
-    trail-end (found (zoneOf (at-start .args .first) ((at-start .args .ats) .now) ((at-start .args .offsets) .now)) (map (eventAt ((at-start .args .book) .now)) ((at-start .args .events) .now)) ((at-start .args .from) .0) ((at-start .args .to) .0)) ((at-start .args .out) .now) (at-start .args .at) ((at-loop .loop .inv) .1) (omega (arith, (at-loop-test .loop-test .left), (at-loop .loop .inv) .0))
+    let args = at-start .args in
+    trail-end (found (zoneOf (args .first) (args .ats .now) (args .offsets .now)) (map (eventAt (args .book .now)) (args .events .now))
+    (args .from .0) (args .to .0)) (args .out .now) (args .at) (at-loop .loop .inv .1)
+    (omega (arith, (at-loop-test .loop-test .left), (at-loop .loop .inv .0)))
 
 pub put-sought-spec : {M : Type 1} → statement M
 put-sought-spec =

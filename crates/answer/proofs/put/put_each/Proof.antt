@@ -53,8 +53,11 @@ loop-again c =
     let at-put8 = c .before .before in
     let at-loop-test = at-put8 .before .before .before in
     let at-loop = at-loop-test .before in
-    let at-start = at-loop .before .before .before in
-    (omega (arith, (at-loop-test .loop-test .taken)), next-put ((at-start .args .totals) .now) _ ((at-loop .loop .inv) .1) (at-start .pre) (omega (arith, (at-loop-test .loop-test .taken))) ((at-put8 .put8 .ensures)))
+    let at-start = at-loop .before .before .before in (
+      omega (arith, (at-loop-test .loop-test .taken)),
+      next-put (at-start .args .totals .now) _ (at-loop .loop .inv .1) (at-start .pre)
+          (omega (arith, (at-loop-test .loop-test .taken))) (at-put8 .put8 .ensures),
+    )
 
 same-length : tie.Need-same-length Inv-loop μ-loop
 same-length c =
@@ -66,7 +69,8 @@ returns c =
     let at-loop-test = c in
     let at-loop = at-loop-test .before in
     let at-start = at-loop .before .before .before in
-    let e : (at-loop .loop .i) ≡ length ((at-start .args .totals) .now) = omega (arith, (at-loop-test .loop-test .left), (at-loop .loop .inv) .0) in all-put ((at-start .args .totals) .now) _ ((at-loop .loop .inv) .1) e
+    let e : (at-loop .loop .i) ≡ length (at-start .args .totals .now) = omega (arith, (at-loop-test .loop-test .left), (at-loop .loop .inv .0)) in
+    all-put (at-start .args .totals .now) _ (at-loop .loop .inv .1) e
 
 pub put-each-spec : {M : Type 1} → statement M
 put-each-spec =

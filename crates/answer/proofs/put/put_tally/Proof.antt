@@ -19,7 +19,8 @@ returns c =
     let at-put-row = c .before .before in
     let at-put-head = at-put-row .before .before .before .before in
     let at-start = at-put-head .before .before .before .before in
-    rw (tally-bytes (totalsOf ((at-start .args .start) .0) ((at-start .args .end) .0) ((at-start .args .totals) .now))) (after ((at-put-head .put-head .ensures)) ((at-put-row .put-row .ensures)) refl)
+    rw (tally-bytes (totalsOf (at-start .args .start .0) (at-start .args .end .0) (at-start .args .totals .now)))
+    (after (at-put-head .put-head .ensures) (at-put-row .put-row .ensures) refl)
 
 pub put-tally-spec : {M : Type 1} → statement M
 put-tally-spec = tie.close (tie.spec put-head-requires put-row-requires same-length returns)

@@ -24,7 +24,10 @@ returns c =
     let at-if1 = at-refused .before in
     let at-is-outside = at-if1 .before in
     let at-start = at-is-outside .before .before .before in
-    cells-outside ((at-start .args .row) .now) (at-start .args .start) (at-start .args .end) (at-start .args .columns) (at-start .args .marked) (at-start .args .at) _ ((sym (ap (λ (z : ℤ). (at-start .args .marked) && not (inside instants z)) (toZ-ofZ w64 (at-start .args .at) (at-start .fits .at))) ∙ sym (at-is-outside .is-outside .ensures)) ∙ (at-if1 .if1 .taken)) _ (at-refused .refused .ensures)
+    let args = at-start .args in
+    cells-outside (args .row .now) (args .start) (args .end) (args .columns) (args .marked) (args .at) _ ((sym
+    (ap (λ (z : ℤ). (args .marked) && not (inside instants z)) (toZ-ofZ w64 (args .at) (at-start .fits .at))) ∙ sym
+    (at-is-outside .is-outside .ensures)) ∙ (at-if1 .if1 .taken)) _ (at-refused .refused .ensures)
 
 asked-window-requires : tie.Need-asked-window-requires
 asked-window-requires c κs = search needs
@@ -56,7 +59,19 @@ tell-cells-requires c κs =
     let at-if1 = at-asked-window .before in
     let at-is-outside = at-if1 .before in
     let at-start = at-is-outside .before .before .before in
-    omega (arith, ((at-place .place .ensures) ∙ ap (placed w64) (toZ-ofZ w64 (at-start .args .start) (at-start .fits .start))), ((at-place2 .place2 .ensures) ∙ ap (placed w64) (toZ-ofZ w64 (at-start .args .end) (at-start .fits .end))), placed-order ((at-start .args .row) .now) (at-start .args .start) (at-start .args .end) (at-start .args .columns) (at-start .args .marked) (at-start .args .at) ((at-start .args .out) .now) ((sym (ap (λ (z : ℤ). (at-start .args .marked) && not (inside instants z)) (toZ-ofZ w64 (at-start .args .at) (at-start .fits .at))) ∙ sym (at-is-outside .is-outside .ensures)) ∙ (at-if1 .if1 .left)) _ _ (sym ((at-a .a .given .1)) ∙ (at-asked-window .asked-window .ensures) ∙ (ap₂ windowOf (toZ-ofZ w64 (at-start .args .start) (at-start .fits .start)) (toZ-ofZ w64 (at-start .args .end) (at-start .fits .end)))))
+    let args = at-start .args in
+    let start-is = toZ-ofZ w64 (args .start) (at-start .fits .start) in
+    let end-is = toZ-ofZ w64 (args .end) (at-start .fits .end) in
+    omega (
+      arith,
+      ((at-place .place .ensures) ∙ ap (placed w64) start-is),
+      ((at-place2 .place2 .ensures) ∙ ap (placed w64) end-is),
+      placed-order
+          (args .row .now) (args .start) (args .end) (args .columns) (args .marked) (args .at) (args .out .now) ((sym
+          (ap (λ (z : ℤ). (args .marked) && not (inside instants z)) (toZ-ofZ w64 (args .at) (at-start .fits .at))) ∙ sym
+          (at-is-outside .is-outside .ensures)) ∙ (at-if1 .if1 .left)) _ _
+          (sym (at-a .a .given .1) ∙ (at-asked-window .asked-window .ensures) ∙ (ap₂ windowOf start-is end-is)),
+    )
 
 returns-2 : tie.Need-returns-2
 returns-2 c =
@@ -66,7 +81,12 @@ returns-2 c =
     let at-if1 = at-asked-window .before in
     let at-is-outside = at-if1 .before in
     let at-start = at-is-outside .before .before .before in
-    cells-refused ((at-start .args .row) .now) (at-start .args .start) (at-start .args .end) (at-start .args .columns) (at-start .args .marked) (at-start .args .at) _ ((sym (ap (λ (z : ℤ). (at-start .args .marked) && not (inside instants z)) (toZ-ofZ w64 (at-start .args .at) (at-start .fits .at))) ∙ sym (at-is-outside .is-outside .ensures)) ∙ (at-if1 .if1 .left)) _ (sym ((at-n .n .given .1)) ∙ (at-asked-window .asked-window .ensures) ∙ (ap₂ windowOf (toZ-ofZ w64 (at-start .args .start) (at-start .fits .start)) (toZ-ofZ w64 (at-start .args .end) (at-start .fits .end)))) _ (at-refused2 .refused2 .ensures)
+    let args = at-start .args in
+    cells-refused (args .row .now) (args .start) (args .end) (args .columns) (args .marked) (args .at) _ ((sym
+    (ap (λ (z : ℤ). (args .marked) && not (inside instants z)) (toZ-ofZ w64 (args .at) (at-start .fits .at))) ∙ sym
+    (at-is-outside .is-outside .ensures)) ∙ (at-if1 .if1 .left)) _ (sym (at-n .n .given .1) ∙ (at-asked-window .asked-window .ensures) ∙
+    (ap₂ windowOf (toZ-ofZ w64 (args .start) (at-start .fits .start)) (toZ-ofZ w64 (args .end) (at-start .fits .end)))) _
+    (at-refused2 .refused2 .ensures)
 
 same-length : tie.Need-same-length
 same-length c = search needs
@@ -82,7 +102,21 @@ returns-3 c =
     let at-if1 = at-asked-window .before in
     let at-is-outside = at-if1 .before in
     let at-start = at-is-outside .before .before .before in
-    cells-told ((at-start .args .row) .now) (at-start .args .start) (at-start .args .end) (at-start .args .columns) (at-start .args .marked) (at-start .args .at) _ ((sym (ap (λ (z : ℤ). (at-start .args .marked) && not (inside instants z)) (toZ-ofZ w64 (at-start .args .at) (at-start .fits .at))) ∙ sym (at-is-outside .is-outside .ensures)) ∙ (at-if1 .if1 .left)) _ _ (sym ((at-a .a .given .1)) ∙ (at-asked-window .asked-window .ensures) ∙ (ap₂ windowOf (toZ-ofZ w64 (at-start .args .start) (at-start .fits .start)) (toZ-ofZ w64 (at-start .args .end) (at-start .fits .end)))) _ _ (rw (sym ((at-place .place .ensures) ∙ ap (placed w64) (toZ-ofZ w64 (at-start .args .start) (at-start .fits .start))), sym ((at-place2 .place2 .ensures) ∙ ap (placed w64) (toZ-ofZ w64 (at-start .args .end) (at-start .fits .end))), sym ((at-place3 .place3 .ensures) ∙ ap (placed w64) (toZ-ofZ w64 (at-start .args .at) (at-start .fits .at))), sym (toZ-ofZ w64 (at-start .args .columns) (at-start .fits .columns))) (at-tell-cells .tell-cells .ensures))
+    let args = at-start .args in
+    let start-is = toZ-ofZ w64 (args .start) (at-start .fits .start) in
+    let end-is = toZ-ofZ w64 (args .end) (at-start .fits .end) in
+    let at-is = toZ-ofZ w64 (args .at) (at-start .fits .at) in
+    cells-told (args .row .now) (args .start) (args .end) (args .columns) (args .marked) (args .at) _
+    ((sym (ap (λ (z : ℤ). (args .marked) && not (inside instants z)) at-is) ∙ sym (at-is-outside .is-outside .ensures)) ∙ (at-if1 .if1 .left)) _ _
+    (sym (at-a .a .given .1) ∙ (at-asked-window .asked-window .ensures) ∙ (ap₂ windowOf start-is end-is)) _ _ (rw (
+      sym
+          ((at-place .place .ensures) ∙ ap (placed w64) start-is),
+      sym ((at-place2 .place2 .ensures) ∙ ap (placed w64) end-is),
+      sym
+          ((at-place3 .place3 .ensures) ∙ ap (placed w64) at-is),
+      sym (toZ-ofZ w64 (args .columns) (at-start .fits .columns)),
+    )
+    (at-tell-cells .tell-cells .ensures))
 
 pub cells-answer-spec : {M : Type 1} → statement M
 cells-answer-spec =

@@ -15,7 +15,11 @@ abbrev μ-loop : tie.MeasureT-loop
 loop-holds : tie.Need-loop-holds Inv-loop μ-loop
 loop-holds c =
     let at-start = c .before in
-    ((at-start .pre) .2, fill-start (at-start .args .grid) ((at-start .pre) .0) ((at-start .args .first) .c) (at-start .args .limit) (at-start .args .byte) ((at-start .args .out) .now) ((at-start .pre) .3) ((at-start .pre) .2 .inside))
+    let args = at-start .args in (
+      (at-start .pre .2),
+      fill-start (args .grid) (at-start .pre .0) (args .first .c) (args .limit) (args .byte) (args .out .now) (at-start .pre .3)
+          (at-start .pre .2 .inside),
+    )
 
 same-length : tie.Need-same-length Inv-loop μ-loop
 same-length c =
@@ -27,7 +31,11 @@ returns c =
     let at-if2 = c in
     let at-loop = at-if2 .before .before .before .before .before in
     let at-start = at-loop .before .before in
-    ((at-loop .loop .inv) .0, fill-limit (at-start .args .grid) ((at-start .pre) .0) ((at-start .args .first) .c) (at-start .args .limit) (at-start .args .byte) ((at-start .args .out) .now) ((at-start .pre) .3) _ _ ((at-loop .loop .inv) .1) _ ((at-loop .loop .inv) .0 .at) (at-if2 .if2 .taken))
+    let args = at-start .args in (
+      (at-loop .loop .inv .0),
+      fill-limit (args .grid) (at-start .pre .0) (args .first .c) (args .limit) (args .byte) (args .out .now)
+          (at-start .pre .3) _ _ (at-loop .loop .inv .1) _ (at-loop .loop .inv .0 .at) (at-if2 .if2 .taken),
+    )
 
 cell-or-requires : tie.Need-cell-or-requires Inv-loop μ-loop
 cell-or-requires c κs = search needs
@@ -66,7 +74,12 @@ loop-again c =
     let at-if1 = at-if2 .before .before in
     let at-loop = at-if1 .before .before .before in
     let at-start = at-loop .before .before in
-    ((at-next-column .next-column .ensures) .0, fill-one (at-start .args .grid) ((at-start .pre) .0) ((at-start .args .first) .c) (at-start .args .limit) (at-start .args .byte) ((at-start .args .out) .now) ((at-start .pre) .3) _ _ ((at-loop .loop .inv) .1) (at-if1 .if1 .taken) _ ((at-loop .loop .inv) .0 .at) (at-if2 .if2 .left) _ (at-cell-or .cell-or .ensures) _ ((at-next-column .next-column .ensures) .1))
+    let args = at-start .args in (
+      (at-next-column .next-column .ensures .0),
+      fill-one (args .grid) (at-start .pre .0) (args .first .c) (args .limit) (args .byte) (args .out .now)
+          (at-start .pre .3) _ _ (at-loop .loop .inv .1) (at-if1 .if1 .taken) _ (at-loop .loop .inv .0 .at) (at-if2 .if2 .left) _
+          (at-cell-or .cell-or .ensures) _ (at-next-column .next-column .ensures .1),
+    )
 
 same-length-2 : tie.Need-same-length-2 Inv-loop μ-loop
 same-length-2 c =
@@ -78,7 +91,11 @@ returns-2 c =
     let at-if1 = c in
     let at-loop = at-if1 .before .before .before in
     let at-start = at-loop .before .before in
-    ((at-loop .loop .inv) .0, fill-end (at-start .args .grid) ((at-start .pre) .0) ((at-start .args .first) .c) (at-start .args .limit) (at-start .args .byte) ((at-start .args .out) .now) ((at-start .pre) .3) _ _ ((at-loop .loop .inv) .1) (at-if1 .if1 .left))
+    let args = at-start .args in (
+      (at-loop .loop .inv .0),
+      fill-end (args .grid) (at-start .pre .0) (args .first .c) (args .limit) (args .byte) (args .out .now) (at-start .pre .3)
+          _ _ (at-loop .loop .inv .1) (at-if1 .if1 .left),
+    )
 
 pub fill-spec : {M : Type 1} → statement M
 fill-spec =

@@ -18,7 +18,8 @@ returns c =
     let at-enum-told = c in
     let at-asked-at = at-enum-told .before .before in
     let at-start = at-asked-at .before in
-    outside-marked (at-start .args .marked) _ (asked-outside (at-start .args .at) (at-start .fits .at) (at-asked-at .asked-at .ensures) ((at-enum-told .enum-told .given .1)))
+    outside-marked (at-start .args .marked) _
+    (asked-outside (at-start .args .at) (at-start .fits .at) (at-asked-at .asked-at .ensures) (at-enum-told .enum-told .given .1))
 
 returns-2 : tie.Need-returns-2
 returns-2 c =

@@ -24,7 +24,11 @@ pace-of-requires c κs =
 loop-holds : tie.Need-loop-holds Inv-loop μ-loop
 loop-holds c =
     let at-start = c .before .before .before in
-    (first-column (at-start .args .grid) ((at-start .pre) .1), draw-start (at-start .args .grid) ((at-start .pre) .1) ((at-start .args .row) .now) ((at-start .args .out) .now) ((at-start .pre) .2) ((at-start .pre) .0))
+    let args = at-start .args in (
+      first-column (args .grid) (at-start .pre .1),
+      draw-start (args .grid) (at-start .pre .1) (args .row .now) (args .out .now) (at-start .pre .2)
+          (at-start .pre .0),
+    )
 
 read-at-requires : tie.Need-read-at-requires Inv-loop μ-loop
 read-at-requires c κs =
@@ -49,7 +53,15 @@ loop-less c =
     let at-if1 = at-read-at .before in
     let at-loop = at-if1 .before .before .before in
     let at-start = at-loop .before .before .before .before in
-    omega (arith, (at-if1 .if1 .taken), all-filled (at-start .args .grid) ((at-start .pre) .1) ((at-start .args .row) .now) ((at-start .args .out) .now) ((at-start .pre) .2) _ _ _ ((at-loop .loop .inv) .1) ((subst (Tells ((at-start .args .row) .now) ((at-loop .loop .at)))) ((at-enum-told .enum-told .given) .1) (at-read-at .read-at .ensures) .segments) _ _ ((at-fill .fill .ensures) .1))
+    let args = at-start .args in
+    omega (
+      arith,
+      (at-if1 .if1 .taken),
+      all-filled (args .grid) (at-start .pre .1) (args .row .now) (args .out .now) (at-start .pre .2) _ _ _
+          (at-loop .loop .inv .1)
+          ((subst (Tells (args .row .now) (at-loop .loop .at))) (at-enum-told .enum-told .given .1) (at-read-at .read-at .ensures) .segments) _ _
+          (at-fill .fill .ensures .1),
+    )
 
 loop-again : tie.Need-loop-again Inv-loop μ-loop
 loop-again c =
@@ -58,7 +70,13 @@ loop-again c =
     let at-read-at = at-enum-told .before .before in
     let at-loop = at-read-at .before .before .before .before in
     let at-start = at-loop .before .before .before .before in
-    ((at-fill .fill .ensures) .0, draw-blank (at-start .args .grid) ((at-start .pre) .1) ((at-start .args .row) .now) ((at-start .args .out) .now) ((at-start .pre) .2) _ _ _ ((at-loop .loop .inv) .1) ((subst (Tells ((at-start .args .row) .now) ((at-loop .loop .at)))) ((at-enum-told .enum-told .given) .1) (at-read-at .read-at .ensures) .segments) _ _ ((at-fill .fill .ensures) .1))
+    let args = at-start .args in (
+      (at-fill .fill .ensures .0),
+      draw-blank (args .grid) (at-start .pre .1) (args .row .now) (args .out .now) (at-start .pre .2) _ _ _
+          (at-loop .loop .inv .1)
+          ((subst (Tells (args .row .now) (at-loop .loop .at))) (at-enum-told .enum-told .given .1) (at-read-at .read-at .ensures) .segments) _ _
+          (at-fill .fill .ensures .1),
+    )
 
 enum-known-number : tie.Need-enum-known-number Inv-loop μ-loop
 enum-known-number c = search needs
@@ -78,7 +96,15 @@ loop-less-2 c =
     let at-if1 = at-read-at .before in
     let at-loop = at-if1 .before .before .before in
     let at-start = at-loop .before .before .before .before in
-    omega (arith, (at-if1 .if1 .taken), all-filled (at-start .args .grid) ((at-start .pre) .1) ((at-start .args .row) .now) ((at-start .args .out) .now) ((at-start .pre) .2) _ _ _ ((at-loop .loop .inv) .1) ((subst (Tells ((at-start .args .row) .now) ((at-loop .loop .at)))) ((at-number .number .given) .1) (at-read-at .read-at .ensures) .segments) _ _ ((at-fill2 .fill2 .ensures) .1))
+    let args = at-start .args in
+    omega (
+      arith,
+      (at-if1 .if1 .taken),
+      all-filled (args .grid) (at-start .pre .1) (args .row .now) (args .out .now) (at-start .pre .2) _ _ _
+          (at-loop .loop .inv .1)
+          ((subst (Tells (args .row .now) (at-loop .loop .at))) (at-number .number .given .1) (at-read-at .read-at .ensures) .segments) _ _
+          (at-fill2 .fill2 .ensures .1),
+    )
 
 loop-again-2 : tie.Need-loop-again-2 Inv-loop μ-loop
 loop-again-2 c =
@@ -87,7 +113,13 @@ loop-again-2 c =
     let at-read-at = at-number .before .before in
     let at-loop = at-read-at .before .before .before .before in
     let at-start = at-loop .before .before .before .before in
-    ((at-fill2 .fill2 .ensures) .0, draw-blank (at-start .args .grid) ((at-start .pre) .1) ((at-start .args .row) .now) ((at-start .args .out) .now) ((at-start .pre) .2) _ _ _ ((at-loop .loop .inv) .1) ((subst (Tells ((at-start .args .row) .now) ((at-loop .loop .at)))) ((at-number .number .given) .1) (at-read-at .read-at .ensures) .segments) _ _ ((at-fill2 .fill2 .ensures) .1))
+    let args = at-start .args in (
+      (at-fill2 .fill2 .ensures .0),
+      draw-blank (args .grid) (at-start .pre .1) (args .row .now) (args .out .now) (at-start .pre .2) _ _ _
+          (at-loop .loop .inv .1)
+          ((subst (Tells (args .row .now) (at-loop .loop .at))) (at-number .number .given .1) (at-read-at .read-at .ensures) .segments) _ _
+          (at-fill2 .fill2 .ensures .1),
+    )
 
 enum-known-g : tie.Need-enum-known-g Inv-loop μ-loop
 enum-known-g c = search needs
@@ -107,8 +139,13 @@ fill-requires-4 c κs =
     let at-fill3 = c .before .before .before .before in
     let at-loop = at-fill3 .before .before .before .before .before .before .before .before .before .before .before in
     let at-pace-of = at-loop .before in
-    let at-start = at-pace-of .before .before .before in
-    (((at-start .pre) .1), (at-pace-of .pace-of .ensures), (at-fill3 .fill3 .ensures) .0, omega (arith, (at-start .pre) .2, (at-loop .loop .inv) .1 .painted .kept, (at-fill3 .fill3 .ensures) .1 .kept))
+    let at-start = at-pace-of .before .before .before in (
+      (at-start .pre .1),
+      (at-pace-of .pace-of .ensures),
+      (at-fill3 .fill3 .ensures .0),
+      omega
+          (arith, (at-start .pre .2), (at-loop .loop .inv .1 .painted .kept), (at-fill3 .fill3 .ensures .1 .kept)),
+    )
 
 loop-less-3 : tie.Need-loop-less-3 Inv-loop μ-loop
 loop-less-3 c =
@@ -130,7 +167,12 @@ loop-again-3 c =
     let at-read-at = at-g .before .before in
     let at-loop = at-read-at .before .before .before .before in
     let at-start = at-loop .before .before .before .before in
-    ((at-fill4 .fill4 .ensures) .0, draw-on (at-start .args .grid) ((at-start .pre) .1) ((at-start .args .row) .now) ((at-start .args .out) .now) ((at-start .pre) .2) _ _ _ ((at-loop .loop .inv) .1) _ ((subst (Tells ((at-start .args .row) .now) ((at-loop .loop .at)))) ((at-g .g .given) .1) (at-read-at .read-at .ensures)) _ _ _ _ _ ((at-fill3 .fill3 .ensures) .1) (at-glyph-of .glyph-of .ensures) ((at-fill4 .fill4 .ensures) .1))
+    let args = at-start .args in (
+      (at-fill4 .fill4 .ensures .0),
+      draw-on (args .grid) (at-start .pre .1) (args .row .now) (args .out .now) (at-start .pre .2) _ _ _
+          (at-loop .loop .inv .1) _ ((subst (Tells (args .row .now) (at-loop .loop .at))) (at-g .g .given .1) (at-read-at .read-at .ensures)) _ _ _ _ _
+          (at-fill3 .fill3 .ensures .1) (at-glyph-of .glyph-of .ensures) (at-fill4 .fill4 .ensures .1),
+    )
 
 same-length : tie.Need-same-length Inv-loop μ-loop
 same-length c =
@@ -142,7 +184,8 @@ returns c =
     let at-if1 = c in
     let at-loop = at-if1 .before .before .before in
     let at-start = at-loop .before .before .before .before in
-    draw-end (at-start .args .grid) ((at-start .pre) .1) ((at-start .args .row) .now) ((at-start .args .out) .now) ((at-start .pre) .2) _ _ _ ((at-loop .loop .inv) .1) (at-if1 .if1 .left)
+    draw-end (at-start .args .grid) (at-start .pre .1) (at-start .args .row .now) (at-start .args .out .now) (at-start .pre .2) _ _ _
+    (at-loop .loop .inv .1) (at-if1 .if1 .left)
 
 pub put-cells-spec : {M : Type 1} → statement M
 put-cells-spec =

@@ -22,7 +22,10 @@ returns c =
     let at-if1 = at-refused .before in
     let at-columns-of = at-if1 .before in
     let at-start = at-columns-of .before .before .before in
-    told-many ((at-start .args .row) .now) ((at-start .args .start) .0) ((at-start .args .end) .0) (at-start .args .columns) (at-start .args .marked) ((at-start .args .at) .0) ((at-start .args .out) .now) _ _ ((at-columns-of .columns-of .ensures) ∙ ap columnsOf (toZ-ofZ w64 (at-start .args .columns) (at-start .fits .columns))) (at-if1 .if1 .taken) (at-refused .refused .ensures)
+    let args = at-start .args in
+    told-many (args .row .now) (args .start .0) (args .end .0) (args .columns) (args .marked) (args .at .0) (args .out .now) _ _
+    ((at-columns-of .columns-of .ensures) ∙ ap columnsOf (toZ-ofZ w64 (args .columns) (at-start .fits .columns))) (at-if1 .if1 .taken)
+    (at-refused .refused .ensures)
 
 good-row-requires : tie.Need-good-row-requires
 good-row-requires c κs = search needs
@@ -38,7 +41,10 @@ returns-2 c =
     let at-if1 = at-good-row .before in
     let at-columns-of = at-if1 .before in
     let at-start = at-columns-of .before .before .before in
-    told-bad ((at-start .args .row) .now) ((at-start .args .start) .0) ((at-start .args .end) .0) (at-start .args .columns) (at-start .args .marked) ((at-start .args .at) .0) ((at-start .args .out) .now) _ _ ((at-columns-of .columns-of .ensures) ∙ ap columnsOf (toZ-ofZ w64 (at-start .args .columns) (at-start .fits .columns))) (at-if1 .if1 .left) (sym (at-good-row .good-row .ensures) ∙ not-true _ (at-if2 .if2 .taken)) (at-refused2 .refused2 .ensures)
+    let args = at-start .args in
+    told-bad (args .row .now) (args .start .0) (args .end .0) (args .columns) (args .marked) (args .at .0) (args .out .now) _ _
+    ((at-columns-of .columns-of .ensures) ∙ ap columnsOf (toZ-ofZ w64 (args .columns) (at-start .fits .columns))) (at-if1 .if1 .left)
+    (sym (at-good-row .good-row .ensures) ∙ not-true _ (at-if2 .if2 .taken)) (at-refused2 .refused2 .ensures)
 
 add-length : tie.Need-add-length
 add-length c = search needs
@@ -55,7 +61,10 @@ returns-3 c =
     let at-if1 = at-good-row .before in
     let at-columns-of = at-if1 .before in
     let at-start = at-columns-of .before .before .before in
-    told-short ((at-start .args .row) .now) ((at-start .args .start) .0) ((at-start .args .end) .0) (at-start .args .columns) (at-start .args .marked) ((at-start .args .at) .0) ((at-start .args .out) .now) _ _ ((at-columns-of .columns-of .ensures) ∙ ap columnsOf (toZ-ofZ w64 (at-start .args .columns) (at-start .fits .columns))) (at-if1 .if1 .left) (sym (at-good-row .good-row .ensures) ∙ not-false _ (at-if2 .if2 .left)) (at-if3 .if3 .taken) (at-refused3 .refused3 .ensures)
+    let args = at-start .args in
+    told-short (args .row .now) (args .start .0) (args .end .0) (args .columns) (args .marked) (args .at .0) (args .out .now) _ _
+    ((at-columns-of .columns-of .ensures) ∙ ap columnsOf (toZ-ofZ w64 (args .columns) (at-start .fits .columns))) (at-if1 .if1 .left)
+    (sym (at-good-row .good-row .ensures) ∙ not-false _ (at-if2 .if2 .left)) (at-if3 .if3 .taken) (at-refused3 .refused3 .ensures)
 
 marker-of-requires : tie.Need-marker-of-requires
 marker-of-requires c κs = search needs
@@ -73,8 +82,13 @@ put-cells-requires c κs =
     let at-good-row = at-if2 .before in
     let at-if1 = at-good-row .before in
     let at-columns-of = at-if1 .before in
-    let at-start = at-columns-of .before .before .before in
-    ((sym (at-good-row .good-row .ensures) ∙ not-false _ (at-if2 .if2 .left)), good-grid _ _ _ _ (at-start .args .columns) ((at-columns-of .columns-of .ensures) ∙ ap columnsOf (toZ-ofZ w64 (at-start .args .columns) (at-start .fits .columns))) (at-if1 .if1 .left) (at-start .pre) (omega arith), omega (arith, (at-if3 .if3 .left), length-set ((at-start .args .out) .now) 0 91))
+    let at-start = at-columns-of .before .before .before in (
+      (sym (at-good-row .good-row .ensures) ∙ not-false _ (at-if2 .if2 .left)),
+      good-grid _ _ _ _ (at-start .args .columns)
+          ((at-columns-of .columns-of .ensures) ∙ ap columnsOf (toZ-ofZ w64 (at-start .args .columns) (at-start .fits .columns))) (at-if1 .if1 .left)
+          (at-start .pre) (omega arith),
+      omega (arith, (at-if3 .if3 .left), length-set (at-start .args .out .now) 0 91),
+    )
 
 sub-out : tie.Need-sub-out
 sub-out c = search needs
@@ -86,7 +100,10 @@ slice-write-out-2 c =
     let at-if3 = at-marker-of .before in
     let at-columns-of = at-if3 .before .before .before .before in
     let at-start = at-columns-of .before .before .before in
-    let k = mid-length (madeGrid ((at-start .args .start) .0) ((at-start .args .end) .0) (at-columns-of .columns-of .result) (at-marker-of .marker-of .result)) ((at-start .args .row) .now) ((at-start .args .out) .now) _ (at-if3 .if3 .left) (at-put-cells .put-cells .ensures) in omega (arith, (at-if3 .if3 .left), k)
+    let args = at-start .args in
+    let k = mid-length (madeGrid (args .start .0) (args .end .0) (at-columns-of .columns-of .result) (at-marker-of .marker-of .result))
+    (args .row .now) (args .out .now) _ (at-if3 .if3 .left) (at-put-cells .put-cells .ensures) in
+    omega (arith, (at-if3 .if3 .left), k)
 
 answered-requires : tie.Need-answered-requires
 answered-requires c κs = search needs
@@ -98,7 +115,9 @@ same-length c =
     let at-if3 = at-marker-of .before in
     let at-columns-of = at-if3 .before .before .before .before in
     let at-start = at-columns-of .before .before .before in
-    end-length (madeGrid ((at-start .args .start) .0) ((at-start .args .end) .0) (at-columns-of .columns-of .result) (at-marker-of .marker-of .result)) ((at-start .args .row) .now) ((at-start .args .out) .now) _ (at-if3 .if3 .left) (at-put-cells .put-cells .ensures) _
+    let args = at-start .args in
+    end-length (madeGrid (args .start .0) (args .end .0) (at-columns-of .columns-of .result) (at-marker-of .marker-of .result)) (args .row .now)
+    (args .out .now) _ (at-if3 .if3 .left) (at-put-cells .put-cells .ensures) _
 
 returns-4 : tie.Need-returns-4
 returns-4 c =
@@ -111,7 +130,11 @@ returns-4 c =
     let at-if1 = at-good-row .before in
     let at-columns-of = at-if1 .before in
     let at-start = at-columns-of .before .before .before in
-    told ((at-start .args .row) .now) ((at-start .args .start) .0) ((at-start .args .end) .0) (at-start .args .columns) (at-start .args .marked) ((at-start .args .at) .0) ((at-start .args .out) .now) _ _ ((at-columns-of .columns-of .ensures) ∙ ap columnsOf (toZ-ofZ w64 (at-start .args .columns) (at-start .fits .columns))) (at-if1 .if1 .left) (sym (at-good-row .good-row .ensures) ∙ not-false _ (at-if2 .if2 .left)) (at-if3 .if3 .left) _ (at-marker-of .marker-of .ensures) _ (at-put-cells .put-cells .ensures) (at-answered .answered .ensures)
+    let args = at-start .args in
+    told (args .row .now) (args .start .0) (args .end .0) (args .columns) (args .marked) (args .at .0) (args .out .now) _ _
+    ((at-columns-of .columns-of .ensures) ∙ ap columnsOf (toZ-ofZ w64 (args .columns) (at-start .fits .columns))) (at-if1 .if1 .left)
+    (sym (at-good-row .good-row .ensures) ∙ not-false _ (at-if2 .if2 .left)) (at-if3 .if3 .left) _ (at-marker-of .marker-of .ensures) _
+    (at-put-cells .put-cells .ensures) (at-answered .answered .ensures)
 
 pub tell-cells-spec : {M : Type 1} → statement M
 tell-cells-spec =

@@ -38,7 +38,9 @@ returns c =
     let at-t = at-good-row .before .before in
     let at-asked-at = at-t .before .before in
     let at-start = at-asked-at .before .before in
-    class-bad ((at-start .args .row) .now) (at-start .args .at) _ (asked-in (at-start .args .at) (at-start .fits .at) (at-asked-at .asked-at .ensures) ((at-t .t .given .1)) .1) (sym (at-good-row .good-row .ensures) ∙ not-true _ (at-if1 .if1 .taken)) (at-no-class2 .no-class2 .ensures)
+    class-bad (at-start .args .row .now) (at-start .args .at) _
+    (asked-in (at-start .args .at) (at-start .fits .at) (at-asked-at .asked-at .ensures) (at-t .t .given .1) .1)
+    (sym (at-good-row .good-row .ensures) ∙ not-true _ (at-if1 .if1 .taken)) (at-no-class2 .no-class2 .ensures)
 
 place-requires : tie.Need-place-requires
 place-requires c κs = search needs
@@ -59,7 +61,9 @@ returns-2 c =
     let at-enum-told = at-no-class .before in
     let at-asked-at = at-enum-told .before .before in
     let at-start = at-asked-at .before .before in
-    class-outside ((at-start .args .row) .now) (at-start .args .at) _ (asked-outside (at-start .args .at) (at-start .fits .at) (at-asked-at .asked-at .ensures) ((at-enum-told .enum-told .given .1))) (at-no-class .no-class .ensures)
+    class-outside (at-start .args .row .now) (at-start .args .at) _
+    (asked-outside (at-start .args .at) (at-start .fits .at) (at-asked-at .asked-at .ensures) (at-enum-told .enum-told .given .1))
+    (at-no-class .no-class .ensures)
 
 returns-3 : tie.Need-returns-3
 returns-3 c =
@@ -71,7 +75,11 @@ returns-3 c =
     let at-t = at-good-row .before .before in
     let at-asked-at = at-t .before .before in
     let at-start = at-asked-at .before .before in
-    class-told ((at-start .args .row) .now) (at-start .args .at) (asked-in (at-start .args .at) (at-start .fits .at) (at-asked-at .asked-at .ensures) ((at-t .t .given .1)) .1) (sym (at-good-row .good-row .ensures) ∙ not-false _ (at-if1 .if1 .left)) _ ((at-number-of .number-of .ensures) ∙ ap classNumber ((at-row-class .row-class .ensures) .shown ∙ ap (classAt (segments ((at-start .args .row) .now))) ((at-place .place .ensures) ∙ ap (placed w64) (toZ-ofZ w64 (at-start .args .at) (at-start .fits .at)))))
+    let args = at-start .args in
+    class-told (args .row .now) (args .at) (asked-in (args .at) (at-start .fits .at) (at-asked-at .asked-at .ensures) (at-t .t .given .1) .1)
+    (sym (at-good-row .good-row .ensures) ∙ not-false _ (at-if1 .if1 .left)) _ ((at-number-of .number-of .ensures) ∙ ap classNumber
+    ((at-row-class .row-class .ensures .shown) ∙ ap (classAt (segments (args .row .now)))
+    ((at-place .place .ensures) ∙ ap (placed w64) (toZ-ofZ w64 (args .at) (at-start .fits .at)))))
 
 pub class-answer-spec : {M : Type 1} → statement M
 class-answer-spec =

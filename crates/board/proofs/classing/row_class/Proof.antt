@@ -33,7 +33,8 @@ returns c =
     let at-read-at = at-enum-told .before .before in
     let at-loop = at-read-at .before in
     let at-start = at-loop .before .before in
-    along-end _ _ _ _ _ (at-loop .loop .inv) ((subst (Tells ((at-start .args .rows) .now) (at-loop .loop .place))) ((at-enum-told .enum-told .given .1)) (at-read-at .read-at .ensures)) _
+    along-end _ _ _ _ _ (at-loop .loop .inv)
+    ((subst (Tells (at-start .args .rows .now) (at-loop .loop .place))) (at-enum-told .enum-told .given .1) (at-read-at .read-at .ensures)) _
 
 enum-known-number : tie.Need-enum-known-number Inv-loop μ-loop
 enum-known-number c = search needs
@@ -44,7 +45,8 @@ returns-2 c =
     let at-read-at = at-number .before .before in
     let at-loop = at-read-at .before in
     let at-start = at-loop .before .before in
-    along-mark _ _ _ _ _ (at-loop .loop .inv) _ _ ((subst (Tells ((at-start .args .rows) .now) (at-loop .loop .place))) ((at-number .number .given .1)) (at-read-at .read-at .ensures))
+    along-mark _ _ _ _ _ (at-loop .loop .inv) _ _
+    ((subst (Tells (at-start .args .rows .now) (at-loop .loop .place))) (at-number .number .given .1) (at-read-at .read-at .ensures))
 
 enum-known-g : tie.Need-enum-known-g Inv-loop μ-loop
 enum-known-g c = search needs
@@ -61,7 +63,8 @@ loop-less c =
     let at-read-at = at-g .before .before in
     let at-loop = at-read-at .before in
     let at-start = at-loop .before .before in
-    let o = (subst (Tells ((at-start .args .rows) .now) (at-loop .loop .place))) ((at-g .g .given .1)) (at-read-at .read-at .ensures) in omega (arith, o .after, o .inside)
+    let o = (subst (Tells (at-start .args .rows .now) (at-loop .loop .place))) (at-g .g .given .1) (at-read-at .read-at .ensures) in
+    omega (arith, o .after, o .inside)
 
 loop-again : tie.Need-loop-again Inv-loop μ-loop
 loop-again c =
@@ -71,7 +74,9 @@ loop-again c =
     let at-read-at = at-g .before .before in
     let at-loop = at-read-at .before in
     let at-start = at-loop .before .before in
-    along-on _ _ _ _ _ (at-loop .loop .inv) _ ((subst (Tells ((at-start .args .rows) .now) (at-loop .loop .place))) ((at-g .g .given .1)) (at-read-at .read-at .ensures)) _ _ (at-class-in .class-in .ensures) (at-first .first .ensures)
+    along-on _ _ _ _ _ (at-loop .loop .inv) _
+    ((subst (Tells (at-start .args .rows .now) (at-loop .loop .place))) (at-g .g .given .1) (at-read-at .read-at .ensures)) _ _
+    (at-class-in .class-in .ensures) (at-first .first .ensures)
 
 pub row-class-spec : {M : Type 1} → statement M
 row-class-spec =

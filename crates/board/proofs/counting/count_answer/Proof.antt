@@ -38,7 +38,9 @@ returns c =
     let at-t = at-good-rows .before .before in
     let at-asked-at = at-t .before .before in
     let at-start = at-asked-at .before .before in
-    count-bad ((at-start .args .rows) .now) (at-start .args .at) _ (asked-in (at-start .args .at) (at-start .fits .at) (at-asked-at .asked-at .ensures) ((at-t .t .given .1)) .1) (sym (at-good-rows .good-rows .ensures) ∙ not-true _ (at-if1 .if1 .taken)) (at-no-count2 .no-count2 .ensures)
+    count-bad (at-start .args .rows .now) (at-start .args .at) _
+    (asked-in (at-start .args .at) (at-start .fits .at) (at-asked-at .asked-at .ensures) (at-t .t .given .1) .1)
+    (sym (at-good-rows .good-rows .ensures) ∙ not-true _ (at-if1 .if1 .taken)) (at-no-count2 .no-count2 .ensures)
 
 place-requires : tie.Need-place-requires
 place-requires c κs = search needs
@@ -55,7 +57,9 @@ returns-2 c =
     let at-enum-told = at-no-count .before in
     let at-asked-at = at-enum-told .before .before in
     let at-start = at-asked-at .before .before in
-    count-outside ((at-start .args .rows) .now) (at-start .args .at) _ (asked-outside (at-start .args .at) (at-start .fits .at) (at-asked-at .asked-at .ensures) ((at-enum-told .enum-told .given .1))) (at-no-count .no-count .ensures)
+    count-outside (at-start .args .rows .now) (at-start .args .at) _
+    (asked-outside (at-start .args .at) (at-start .fits .at) (at-asked-at .asked-at .ensures) (at-enum-told .enum-told .given .1))
+    (at-no-count .no-count .ensures)
 
 returns-3 : tie.Need-returns-3
 returns-3 c =
@@ -66,7 +70,11 @@ returns-3 c =
     let at-t = at-good-rows .before .before in
     let at-asked-at = at-t .before .before in
     let at-start = at-asked-at .before .before in
-    count-told ((at-start .args .rows) .now) (at-start .args .at) (asked-in (at-start .args .at) (at-start .fits .at) (at-asked-at .asked-at .ensures) ((at-t .t .given .1)) .1) (sym (at-good-rows .good-rows .ensures) ∙ not-false _ (at-if1 .if1 .left)) _ (subst (λ (t : ℕ). Counted (rows ((at-start .args .rows) .now)) t (at-count-rows .count-rows .result)) ((at-place .place .ensures) ∙ ap (placed w64) (toZ-ofZ w64 (at-start .args .at) (at-start .fits .at))) (at-count-rows .count-rows .ensures))
+    let args = at-start .args in
+    count-told (args .rows .now) (args .at) (asked-in (args .at) (at-start .fits .at) (at-asked-at .asked-at .ensures) (at-t .t .given .1) .1)
+    (sym (at-good-rows .good-rows .ensures) ∙ not-false _ (at-if1 .if1 .left)) _ (subst
+    (λ (t : ℕ). Counted (rows (args .rows .now)) t (at-count-rows .count-rows .result))
+    ((at-place .place .ensures) ∙ ap (placed w64) (toZ-ofZ w64 (args .at) (at-start .fits .at))) (at-count-rows .count-rows .ensures))
 
 pub count-answer-spec : {M : Type 1} → statement M
 count-answer-spec =

@@ -35,7 +35,8 @@ add-requires c κs =
     let at-loop = at-loop-test .before in
     let at-shared-slice-known = at-loop .before .before in
     let at-start = at-shared-slice-known .before in
-    sum-few ((at-start .args .rows) .now) (at-start .args .t) _ _ (at-loop .loop .inv) (at-loop-test .loop-test .taken) (omega (arith, (at-shared-slice-known .shared-slice-known .given) (length ((at-start .args .rows) .now))))
+    sum-few (at-start .args .rows .now) (at-start .args .t) _ _ (at-loop .loop .inv) (at-loop-test .loop-test .taken)
+    (omega (arith, (at-shared-slice-known .shared-slice-known .given) (length (at-start .args .rows .now))))
 
 loop-less : tie.Need-loop-less Inv-loop μ-loop
 loop-less c =
@@ -52,7 +53,8 @@ loop-again c =
     let at-loop-test = at-row-class2 .before in
     let at-loop = at-loop-test .before in
     let at-start = at-loop .before .before .before in
-    sum-on ((at-start .args .rows) .now) (at-start .args .t) _ _ (at-loop .loop .inv) (at-loop-test .loop-test .taken) _ (at-row-class2 .row-class2 .ensures) _ (at-add .add .ensures)
+    sum-on (at-start .args .rows .now) (at-start .args .t) _ _ (at-loop .loop .inv) (at-loop-test .loop-test .taken) _
+    (at-row-class2 .row-class2 .ensures) _ (at-add .add .ensures)
 
 returns : tie.Need-returns Inv-loop μ-loop
 returns c =

@@ -18,7 +18,8 @@ returns c =
     let at-if1 = c in
     let at-place = at-if1 .before in
     let at-start = at-place .before in
-    few-columns (at-start .args .columns) _ ((at-place .place .ensures) ∙ ap (placed w64) (toZ-ofZ w64 (at-start .args .columns) (at-start .fits .columns))) (at-if1 .if1 .taken)
+    few-columns (at-start .args .columns) _
+    ((at-place .place .ensures) ∙ ap (placed w64) (toZ-ofZ w64 (at-start .args .columns) (at-start .fits .columns))) (at-if1 .if1 .taken)
 
 sub-result : tie.Need-sub-result
 sub-result c = search needs
@@ -28,7 +29,8 @@ returns-2 c =
     let at-if1 = c in
     let at-place = at-if1 .before in
     let at-start = at-place .before in
-    enough-columns (at-start .args .columns) _ ((at-place .place .ensures) ∙ ap (placed w64) (toZ-ofZ w64 (at-start .args .columns) (at-start .fits .columns))) (at-if1 .if1 .left)
+    enough-columns (at-start .args .columns) _
+    ((at-place .place .ensures) ∙ ap (placed w64) (toZ-ofZ w64 (at-start .args .columns) (at-start .fits .columns))) (at-if1 .if1 .left)
 
 pub columns-of-spec : {M : Type 1} → statement M
 columns-of-spec = tie.close (tie.spec place-requires add-if1 returns sub-result returns-2)

@@ -8,7 +8,8 @@ returns : tie.Need-returns
 returns c =
     let at-if1 = c in
     let at-start = at-if1 .before in
-    marker-none (at-start .args .start .0) (at-start .args .end .0) (at-start .args .columns) (at-start .args .marked) (at-start .args .at .0) (not-true _ (at-if1 .if1 .taken))
+    let args = at-start .args in
+    marker-none (args .start .0) (args .end .0) (args .columns) (args .marked) (args .at .0) (not-true _ (at-if1 .if1 .taken))
 
 returns-2 : tie.Need-returns-2
 returns-2 c =
@@ -35,7 +36,9 @@ returns-4 c =
     let at-if2 = at-if3 .before .before .before in
     let at-if1 = at-if2 .before .before .before in
     let at-start = at-if1 .before in
-    marker-in (at-start .args .start .0) (at-start .args .end .0) (at-start .args .columns) (at-start .args .marked) (at-start .args .at .0) (not-false _ (at-if1 .if1 .left)) (at-if2 .if2 .left) (at-if3 .if3 .left) _ (at-share .share .ensures)
+    let args = at-start .args in
+    marker-in (args .start .0) (args .end .0) (args .columns) (args .marked) (args .at .0) (not-false _ (at-if1 .if1 .left)) (at-if2 .if2 .left)
+    (at-if3 .if3 .left) _ (at-share .share .ensures)
 
 pub marker-of-spec : {M : Type 1} → statement M
 marker-of-spec =

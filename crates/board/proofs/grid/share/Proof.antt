@@ -35,14 +35,23 @@ plus-requires c κs =
     let at-loop-test = c .before in
     let at-loop = at-loop-test .before in
     let at-start = at-loop .before .before in
-    (sum-small (at-start .args .gone) (at-start .args .columns) (at-start .args .span) ((at-start .pre) .0) ((at-start .pre) .1) _ _ _ (at-loop .loop .inv), term-small (at-start .args .gone) (at-start .args .columns) (at-start .args .span) ((at-start .pre) .0) ((at-start .pre) .1) _ _ _ (at-loop .loop .inv) (at-loop-test .loop-test .taken))
+    let args = at-start .args in (
+      sum-small (args .gone) (args .columns) (args .span) (at-start .pre .0) (at-start .pre .1) _ _ _ (at-loop .loop .inv),
+      term-small (args .gone)
+          (args .columns) (args .span) (at-start .pre .0) (at-start .pre .1) _ _ _ (at-loop .loop .inv) (at-loop-test .loop-test .taken),
+    )
 
 plus-requires-2 : tie.Need-plus-requires-2 Inv-loop μ-loop
 plus-requires-2 c κs =
     let at-loop-test = c .before in
     let at-loop = at-loop-test .before in
     let at-start = at-loop .before .before in
-    (term-small (at-start .args .gone) (at-start .args .columns) (at-start .args .span) ((at-start .pre) .0) ((at-start .pre) .1) _ _ _ (at-loop .loop .inv) (at-loop-test .loop-test .taken), term-small (at-start .args .gone) (at-start .args .columns) (at-start .args .span) ((at-start .pre) .0) ((at-start .pre) .1) _ _ _ (at-loop .loop .inv) (at-loop-test .loop-test .taken))
+    let args = at-start .args in (
+      term-small (args .gone) (args .columns) (args .span) (at-start .pre .0) (at-start .pre .1) _ _ _ (at-loop .loop .inv)
+          (at-loop-test .loop-test .taken),
+      term-small (args .gone) (args .columns) (args .span) (at-start .pre .0) (at-start .pre .1) _ _ _
+          (at-loop .loop .inv) (at-loop-test .loop-test .taken),
+    )
 
 loop-less : tie.Need-loop-less Inv-loop μ-loop
 loop-less c =
@@ -56,14 +65,19 @@ loop-again c =
     let at-loop-test = at-if2 .before in
     let at-loop = at-loop-test .before in
     let at-start = at-loop .before .before in
-    ⊎-elim (λ w. rw (w .2) (share-odd (at-start .args .gone) (at-start .args .columns) (at-start .args .span) ((at-start .pre) .0) ((at-start .pre) .1) _ _ _ (at-loop .loop .inv) (at-loop-test .loop-test .taken) _ (at-plus2 .plus2 .ensures) (w .0 .taken) _ (w .1 .ensures))) (λ w. rw (w .1) (share-even (at-start .args .gone) (at-start .args .columns) (at-start .args .span) ((at-start .pre) .0) ((at-start .pre) .1) _ _ _ (at-loop .loop .inv) (at-loop-test .loop-test .taken) _ (at-plus2 .plus2 .ensures) (omega (arith, w .0 .left)))) (at-if2 .if2 .came)
+    let args = at-start .args in
+    ⊎-elim (λ w. rw (w .2) (share-odd (args .gone) (args .columns) (args .span) (at-start .pre .0) (at-start .pre .1) _ _ _ (at-loop .loop .inv)
+    (at-loop-test .loop-test .taken) _ (at-plus2 .plus2 .ensures) (w .0 .taken) _ (w .1 .ensures))) (λ w. rw (w .1) (share-even (args .gone)
+    (args .columns) (args .span) (at-start .pre .0) (at-start .pre .1) _ _ _ (at-loop .loop .inv) (at-loop-test .loop-test .taken) _
+    (at-plus2 .plus2 .ensures) (omega (arith, w .0 .left)))) (at-if2 .if2 .came)
 
 returns-2 : tie.Need-returns-2 Inv-loop μ-loop
 returns-2 c =
     let at-loop-test = c in
     let at-loop = at-loop-test .before in
     let at-start = at-loop .before .before in
-    share-end (at-start .args .gone) (at-start .args .columns) (at-start .args .span) ((at-start .pre) .0) ((at-start .pre) .1) _ _ _ (at-loop .loop .inv) (omega (arith, (at-loop-test .loop-test .left)))
+    share-end (at-start .args .gone) (at-start .args .columns) (at-start .args .span) (at-start .pre .0) (at-start .pre .1) _ _ _ (at-loop .loop .inv)
+    (omega (arith, (at-loop-test .loop-test .left)))
 
 pub share-spec : {M : Type 1} → statement M
 share-spec =

@@ -32,7 +32,8 @@ sized c l low high e =
     let at-get2 = at-if2 .before in
     let at-if1 = at-get2 .before in
     let at-start = at-if1 .before .before in
-    frame-sized (at-start .args .book .now) (at-start .args .at) (at-if1 .if1 .left) _ _ l (at-get2 .get2 .ensures) (at-if2 .if2 .left) (c .get22 .ensures) low high e
+    frame-sized (at-start .args .book .now) (at-start .args .at) (at-if1 .if1 .left) _ _ l (at-get2 .get2 .ensures) (at-if2 .if2 .left)
+    (c .get22 .ensures) low high e
 
 returns-3 : tie.Need-returns-3
 returns-3 c =
@@ -61,7 +62,16 @@ returns-7 c =
     let at-match = c in
     let at-get22 = at-match .before in
     let at-start = at-get22 .before .before .before .before .before in
-    unframed (at-start .args .book .now) (at-start .args .at) (λ f. omega (arith, f .kind-low, f .kind-high, (at-get22 .get22 .ensures), (at-match .match .rest) .0 .0 .0 .1, (at-match .match .rest) .0 .0 .1, (at-match .match .rest) .0 .1, (at-match .match .rest) .1))
+    unframed (at-start .args .book .now) (at-start .args .at) (λ f. omega (
+      arith,
+      f .kind-low,
+      f .kind-high,
+      (at-get22 .get22 .ensures),
+      (at-match .match .rest .0 .0 .0 .1),
+      (at-match .match .rest .0 .0 .1),
+      (at-match .match .rest .0 .1),
+      (at-match .match .rest .1),
+    ))
 
 pub bad-frame-spec : {M : Type 1} → statement M
 bad-frame-spec =

@@ -45,7 +45,8 @@ returns-2 c =
     let at-if1 = at-time-place .before in
     let at-item-time = at-if1 .before in
     let at-start = at-item-time .before .before in
-    item-point ((at-start .args .book) .now) (at-start .args .at) (at-start .args .kind) _ _ _ (at-if1 .if1 .left) (at-item-time .item-time .ensures) ((at-time-place .time-place .ensures) .0) (at-get1 .get1 .ensures)
+    item-point (at-start .args .book .now) (at-start .args .at) (at-start .args .kind) _ _ _ (at-if1 .if1 .left) (at-item-time .item-time .ensures)
+    (at-time-place .time-place .ensures .0) (at-get1 .get1 .ensures)
 
 pub bad-item-spec : {M : Type 1} → statement M
 bad-item-spec =

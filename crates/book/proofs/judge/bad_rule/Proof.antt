@@ -27,8 +27,16 @@ returns c =
     let at-get12 = at-get2 .before in
     let at-get1 = at-get12 .before in
     let p = (at-count-place .count-place .ensures) .0 in
-    let n = (at-get13 .get13 .ensures) in
-    rw (points-length, sym (at-bad-days .bad-days .ensures), sym (at-bad-uncertainty .bad-uncertainty .ensures), sym (at-get1 .get1 .ensures), sym (at-get12 .get12 .ensures), sym (at-get2 .get2 .ensures)) (rw (n, p))
+    let n = at-get13 .get13 .ensures in
+    rw (
+      points-length,
+      sym (at-bad-days .bad-days .ensures),
+      sym (at-bad-uncertainty .bad-uncertainty .ensures),
+      sym (at-get1 .get1 .ensures),
+      sym
+          (at-get12 .get12 .ensures),
+      sym (at-get2 .get2 .ensures),
+    ) (rw (n, p))
 
 pub bad-rule-spec : {M : Type 1} → statement M
 bad-rule-spec =

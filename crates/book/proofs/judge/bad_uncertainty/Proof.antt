@@ -41,7 +41,8 @@ returns c =
     let at-get1 = at-signed8 .before in
     let at-tag-place = at-get1 .before in
     let at-start = at-tag-place .before .before in
-    uncertain-at ((at-start .args .book) .now) (at-start .args .at) (at-start .args .kind) _ _ _ _ ((at-tag-place .tag-place .ensures) .0) (at-get1 .get1 .ensures) (at-signed8 .signed8 .ensures) (at-get2 .get2 .ensures)
+    uncertain-at (at-start .args .book .now) (at-start .args .at) (at-start .args .kind) _ _ _ _ (at-tag-place .tag-place .ensures .0)
+    (at-get1 .get1 .ensures) (at-signed8 .signed8 .ensures) (at-get2 .get2 .ensures)
 
 pub bad-uncertainty-spec : {M : Type 1} → statement M
 bad-uncertainty-spec =

@@ -37,7 +37,9 @@ returns-2 c =
     let at-count-place = at-get1 .before in
     let at-if1 = at-count-place .before in
     let at-start = at-if1 .before .before in
-    (at-get1 .get1 .ensures) ∙ ap (λ (k : ℕ). field 1 ((at-start .args .book) .now) ((at-start .args .at) + k)) ((at-count-place .count-place .ensures) .0) ∙ many-items ((at-start .args .book) .now) (at-start .args .at) (at-start .args .kind) ((at-start .pre) .0) ((at-start .pre) .1) (at-if1 .if1 .left)
+    let args = at-start .args in
+    (at-get1 .get1 .ensures) ∙ ap (λ (k : ℕ). field 1 (args .book .now) ((args .at) + k)) (at-count-place .count-place .ensures .0) ∙ many-items
+    (args .book .now) (args .at) (args .kind) (at-start .pre .0) (at-start .pre .1) (at-if1 .if1 .left)
 
 pub items-spec : {M : Type 1} → statement M
 items-spec = tie.close (tie.spec returns (λ c κs. search needs) add-get1 get1-requires returns-2)

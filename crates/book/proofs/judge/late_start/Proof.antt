@@ -16,7 +16,8 @@ returns-2 c =
     let at-items = at-if2 .before in
     let at-if1 = at-items .before in
     let at-start = at-if1 .before .before in
-    late-none ((at-start .args .book) .now) (at-start .args .at) (at-start .args .kind) ((at-start .pre) .0) ((at-start .pre) .1) (at-if1 .if1 .left) (sym (at-items .items .ensures) ∙ (at-if2 .if2 .taken))
+    late-none (at-start .args .book .now) (at-start .args .at) (at-start .args .kind) (at-start .pre .0) (at-start .pre .1) (at-if1 .if1 .left)
+    (sym (at-items .items .ensures) ∙ (at-if2 .if2 .taken))
 
 item-time-requires : tie.Need-item-time-requires
 item-time-requires c κs =
@@ -24,7 +25,8 @@ item-time-requires c κs =
     let at-items = at-if2 .before in
     let at-if1 = at-items .before in
     let at-start = at-if1 .before .before in
-    time-room ((at-start .args .book) .now) (at-start .args .at) (at-start .args .kind) ((at-start .pre) .0) ((at-start .pre) .1) (at-if1 .if1 .left) (λ z. (at-if2 .if2 .left) ((at-items .items .ensures) ∙ z))
+    time-room (at-start .args .book .now) (at-start .args .at) (at-start .args .kind) (at-start .pre .0) (at-start .pre .1) (at-if1 .if1 .left)
+    (λ z. (at-if2 .if2 .left) ((at-items .items .ensures) ∙ z))
 
 returns-3 : tie.Need-returns-3
 returns-3 c =
@@ -33,7 +35,8 @@ returns-3 c =
     let at-items = at-if2 .before in
     let at-if1 = at-items .before in
     let at-start = at-if1 .before .before in
-    late-some ((at-start .args .book) .now) (at-start .args .at) (at-start .args .kind) ((at-start .pre) .0) ((at-start .pre) .1) (at-if1 .if1 .left) (λ z. (at-if2 .if2 .left) ((at-items .items .ensures) ∙ z)) _ (at-item-time .item-time .ensures)
+    late-some (at-start .args .book .now) (at-start .args .at) (at-start .args .kind) (at-start .pre .0) (at-start .pre .1) (at-if1 .if1 .left)
+    (λ z. (at-if2 .if2 .left) ((at-items .items .ensures) ∙ z)) _ (at-item-time .item-time .ensures)
 
 pub late-start-spec : {M : Type 1} → statement M
 late-start-spec =

@@ -19,13 +19,17 @@ add-signed8 : tie.Need-add-signed8
 add-signed8 c =
     let at-match = c .before in
     let at-start = at-match .before .before in
-    let r = room2 ((at-start .args .book) .now) (at-start .args .at) (at-start .args .kind) ((at-start .pre) .0) ((at-start .pre) .1) (at-match .match .keys2) in omega arith
+    let r = room2 (at-start .args .book .now) (at-start .args .at) (at-start .args .kind) (at-start .pre .0) (at-start .pre .1)
+    (at-match .match .keys2) in
+    omega arith
 
 signed8-requires : tie.Need-signed8-requires
 signed8-requires c κs =
     let at-match = c .before in
     let at-start = at-match .before .before in
-    let r = room2 ((at-start .args .book) .now) (at-start .args .at) (at-start .args .kind) ((at-start .pre) .0) ((at-start .pre) .1) (at-match .match .keys2) in omega arith
+    let r = room2 (at-start .args .book .now) (at-start .args .at) (at-start .args .kind) (at-start .pre .0) (at-start .pre .1)
+    (at-match .match .keys2) in
+    omega arith
 
 add-t10 : tie.Need-add-t10
 add-t10 c =
@@ -55,7 +59,8 @@ returns-2 c =
     let at-signed8 = c .before in
     let at-match = at-signed8 .before .before in
     let at-start = at-match .before .before in
-    let z : kindAt ((at-start .args .book) .now) (at-start .args .at) ≡ 2 = sym ((at-start .pre) .1) ∙ (at-match .match .keys2) in rw (z, (at-signed8 .signed8 .ensures))
+    let z : kindAt (at-start .args .book .now) (at-start .args .at) ≡ 2 = sym (at-start .pre .1) ∙ (at-match .match .keys2) in
+    rw (z, (at-signed8 .signed8 .ensures))
 
 returns-3 : tie.Need-returns-3
 returns-3 c =
@@ -67,7 +72,10 @@ returns-4 : tie.Need-returns-4
 returns-4 c =
     let at-match = c .before in
     let at-start = at-match .before .before in
-    let z : kindAt ((at-start .args .book) .now) (at-start .args .at) ≡ 4 = sym ((at-start .pre) .1) ∙ the-fourth ((at-start .args .book) .now) (at-start .args .at) (at-start .args .kind) ((at-start .pre) .0) ((at-start .pre) .1) ((at-match .match .rest) .0 .0 .1) ((at-match .match .rest) .0 .1) ((at-match .match .rest) .1) in rw z
+    let args = at-start .args in
+    let z : kindAt (args .book .now) (args .at) ≡ 4 = sym (at-start .pre .1) ∙ the-fourth (args .book .now) (args .at) (args .kind) (at-start .pre .0)
+    (at-start .pre .1) (at-match .match .rest .0 .0 .1) (at-match .match .rest .0 .1) (at-match .match .rest .1) in
+    rw z
 
 pub one-more-spec : {M : Type 1} → statement M
 one-more-spec =

@@ -24,10 +24,11 @@ returns-4 : tie.Need-returns-4
 returns-4 c =
     let at-match = c .before in
     let at-start = at-match .before in
+    let args = at-start .args in
     let h1 = (at-match .match .rest) .0 .0 .1 in
     let h2 = (at-match .match .rest) .0 .1 in
     let h3 = (at-match .match .rest) .1 in
-    sym (ap₂ leb (by-rest 1 640 256 32 h1 h2 h3) (by-rest ((at-start .args .t) .coverages) ((at-start .args .t) .transitions) ((at-start .args .t) .rules) ((at-start .args .t) .events) h1 h2 h3))
+    sym (ap₂ leb (by-rest 1 640 256 32 h1 h2 h3) (by-rest (args .t .coverages) (args .t .transitions) (args .t .rules) (args .t .events) h1 h2 h3))
 
 pub too-many-spec : {M : Type 1} → statement M
 too-many-spec =

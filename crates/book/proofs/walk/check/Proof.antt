@@ -30,7 +30,8 @@ known-at : (c : At tie.After-get22)
     → let at-records = c .before .before .before .before .before in Known (at-records .before .before .before .args .book .now) (at-records .records .at) (at-records .records .t) (c .get22 .result)
 known-at c =
     let at-bad-frame = c .before .before .before in
-    known (at-bad-frame .before .before .records .inv) (at-bad-frame .before .if2 .left) (sym (at-bad-frame .bad-frame .ensures) ∙ c .before .before .if3 .left) _ (c .get22 .ensures)
+    known (at-bad-frame .before .before .records .inv) (at-bad-frame .before .if2 .left)
+    (sym (at-bad-frame .bad-frame .ensures) ∙ c .before .before .if3 .left) _ (c .get22 .ensures)
 
 returns : At tie.Need-returns
 returns c =
@@ -69,7 +70,9 @@ add-next-2 c =
     let at-bad-frame = at-if3 .before in
     let at-records = at-bad-frame .before .before in
     let at-start = at-records .before .before .before in
-    let f = (framed (at-start .args .book .now) (at-records .records .at) (sym (at-bad-frame .bad-frame .ensures) ∙ (at-if3 .if3 .left))) .whole in let z = (size-by (at-start .args .book .now) (at-records .records .at) _ (at-get2 .get2 .ensures)) in omega (arith, (at-records .records .inv) .small)
+    let f = (framed (at-start .args .book .now) (at-records .records .at) (sym (at-bad-frame .bad-frame .ensures) ∙ (at-if3 .if3 .left))) .whole in
+    let z = size-by (at-start .args .book .now) (at-records .records .at) _ (at-get2 .get2 .ensures) in
+    omega (arith, (at-records .records .inv .small))
 
 add-get2 : At tie.Need-add-get2
 add-get2 c =
@@ -110,7 +113,11 @@ add-at c =
     let at-get22 = at-if7 .before .before .before .before .before .before .before in
     let at-records = at-get22 .before .before .before .before .before in
     let at-start = at-records .before .before .before in
-    omega (arith, (room2 (at-start .args .book .now) (at-records .records .at) _ ((known-at at-get22) .frame) ((known-at at-get22) .kind) (at-if7 .if7 .taken)), (at-records .records .inv) .small)
+    omega (
+      arith,
+      (room2 (at-start .args .book .now) (at-records .records .at) _ ((known-at at-get22) .frame) ((known-at at-get22) .kind) (at-if7 .if7 .taken)),
+      (at-records .records .inv .small),
+    )
 
 records-less : At tie.Need-records-less
 records-less c =
@@ -134,7 +141,11 @@ records-again c =
     let at-get22 = at-if4 .before .before in
     let at-records = at-get22 .before .before .before .before .before in
     let at-start = at-records .before .before .before in
-    on-transition (known-at at-get22) (at-if7 .if7 .taken) (sym (headless-is (known-at at-get22)) ∙ (at-if4 .if4 .left)) ((sym (many-is (known-at at-get22)) ∙ sym (at-too-many .too-many .ensures)) ∙ (at-if5 .if5 .left)) (sym (at-bad-fields .bad-fields .ensures) ∙ (at-if6 .if6 .left)) (sym (at-too-close .too-close .ensures) ∙ (at-if8 .if8 .left)) _ (at-one-more .one-more .ensures) _ (next2 (at-start .args .book .now) (at-records .records .at) _ ((known-at at-get22) .frame) ((known-at at-get22) .kind) (at-if7 .if7 .taken))
+    on-transition (known-at at-get22) (at-if7 .if7 .taken) (sym (headless-is (known-at at-get22)) ∙ (at-if4 .if4 .left))
+    ((sym (many-is (known-at at-get22)) ∙ sym (at-too-many .too-many .ensures)) ∙ (at-if5 .if5 .left))
+    (sym (at-bad-fields .bad-fields .ensures) ∙ (at-if6 .if6 .left)) (sym (at-too-close .too-close .ensures) ∙ (at-if8 .if8 .left)) _
+    (at-one-more .one-more .ensures) _
+    (next2 (at-start .args .book .now) (at-records .records .at) _ ((known-at at-get22) .frame) ((known-at at-get22) .kind) (at-if7 .if7 .taken))
 
 items-requires : At tie.Need-items-requires
 items-requires c κs =
@@ -152,7 +163,8 @@ points-holds c =
     let at-get22 = at-if4 .before .before in
     let at-records = at-get22 .before .before .before .before .before in
     let at-start = at-records .before .before .before in
-    record { known = (known-at at-get22); headed = (sym (headless-is (known-at at-get22)) ∙ (at-if4 .if4 .left)); few = ((sym (many-is (known-at at-get22)) ∙ sym (at-too-many .too-many .ensures)) ∙ (at-if5 .if5 .left)); fields = (sym (at-bad-fields .bad-fields .ensures) ∙ (at-if6 .if6 .left)); many = (at-items .items .ensures); looked = looked-none (at-start .args .book .now) _ (at-records .records .at) _ }
+    record
+    { known = (known-at at-get22); headed = (sym (headless-is (known-at at-get22)) ∙ (at-if4 .if4 .left)); few = ((sym (many-is (known-at at-get22)) ∙ sym (at-too-many .too-many .ensures)) ∙ (at-if5 .if5 .left)); fields = (sym (at-bad-fields .bad-fields .ensures) ∙ (at-if6 .if6 .left)); many = (at-items .items .ensures); looked = looked-none (at-start .args .book .now) _ (at-records .records .at) _ }
 
 bad-item-requires : At tie.Need-bad-item-requires
 bad-item-requires c κs =
@@ -173,7 +185,9 @@ add-least c =
     let at-if9 = at-item-time .before in
     let at-bad-item = at-if9 .before in
     let at-points = at-bad-item .before .before in
-    let t = item-below (at-points .points .inv) (sym (at-bad-item .bad-item .ensures) ∙ (at-if9 .if9 .left)) in let e = (at-item-time .item-time .ensures) in omega arith
+    let t = item-below (at-points .points .inv) (sym (at-bad-item .bad-item .ensures) ∙ (at-if9 .if9 .left)) in
+    let e = at-item-time .item-time .ensures in
+    omega arith
 
 add-item : At tie.Need-add-item
 add-item c =
@@ -181,7 +195,9 @@ add-item c =
     let at-points-test = at-step-of .before .before .before .before in
     let at-points = at-points-test .before in
     let at-records = at-points .before .before .before .before .before .before .before .before .before .before .before .before .before .before in
-    let r = item-inside (at-points .points .inv) (at-points-test .points-test .taken) in let e = (at-step-of .step-of .ensures) in omega (arith, (at-records .records .inv) .small)
+    let r = item-inside (at-points .points .inv) (at-points-test .points-test .taken) in
+    let e = at-step-of .step-of .ensures in
+    omega (arith, (at-records .records .inv .small))
 
 add-i : At tie.Need-add-i
 add-i c =
@@ -201,7 +217,8 @@ points-again c =
     let at-bad-item = at-if9 .before in
     let at-points-test = at-bad-item .before in
     let at-points = at-points-test .before in
-    look-on (at-points .points .inv) _ _ (at-points-test .points-test .taken) (sym (at-bad-item .bad-item .ensures) ∙ (at-if9 .if9 .left)) (at-item-time .item-time .ensures) ((at-step-of .step-of .ensures) .0)
+    look-on (at-points .points .inv) _ _ (at-points-test .points-test .taken) (sym (at-bad-item .bad-item .ensures) ∙ (at-if9 .if9 .left))
+    (at-item-time .item-time .ensures) (at-step-of .step-of .ensures .0)
 
 late-start-requires : At tie.Need-late-start-requires
 late-start-requires c κs =
@@ -231,7 +248,11 @@ records-less-2 c =
     let at-bad-frame = at-if3 .before in
     let at-records = at-bad-frame .before .before in
     let at-start = at-records .before .before .before in
-    let f = (framed (at-start .args .book .now) (at-records .records .at) (sym (at-bad-frame .bad-frame .ensures) ∙ (at-if3 .if3 .left))) .whole in let h = (framed (at-start .args .book .now) (at-records .records .at) (sym (at-bad-frame .bad-frame .ensures) ∙ (at-if3 .if3 .left))) .head in let z = (size-by (at-start .args .book .now) (at-records .records .at) _ (at-get2 .get2 .ensures)) in omega arith
+    let framed-is = framed (at-start .args .book .now) (at-records .records .at) (sym (at-bad-frame .bad-frame .ensures) ∙ (at-if3 .if3 .left)) in
+    let f = framed-is .whole in
+    let h = framed-is .head in
+    let z = size-by (at-start .args .book .now) (at-records .records .at) _ (at-get2 .get2 .ensures) in
+    omega arith
 
 records-again-2 : At tie.Need-records-again-2
 records-again-2 c =
@@ -249,7 +270,10 @@ records-again-2 c =
     let at-get2 = at-if7 .before .before .before .before .before .before .before .before in
     let at-records = at-get2 .before .before .before .before in
     let at-start = at-records .before .before .before in
-    on-other (at-points .points .inv) (at-points-test .points-test .left) (sym (at-late-start .late-start .ensures) ∙ (at-if10 .if10 .left)) (at-if11 .if11 .left) (sym (at-is-reversed .is-reversed .ensures) ∙ (at-if12 .if12 .left)) (sym (at-covers-nothing .covers-nothing .ensures) ∙ (at-if13 .if13 .left)) (at-if7 .if7 .left) _ (at-one-more2 .one-more2 .ensures) _ (ap (λ (z : ℕ). (at-records .records .at) + 2 + z) (size-by (at-start .args .book .now) (at-records .records .at) _ (at-get2 .get2 .ensures)))
+    on-other (at-points .points .inv) (at-points-test .points-test .left) (sym (at-late-start .late-start .ensures) ∙ (at-if10 .if10 .left))
+    (at-if11 .if11 .left) (sym (at-is-reversed .is-reversed .ensures) ∙ (at-if12 .if12 .left))
+    (sym (at-covers-nothing .covers-nothing .ensures) ∙ (at-if13 .if13 .left)) (at-if7 .if7 .left) _ (at-one-more2 .one-more2 .ensures) _
+    (ap (λ (z : ℕ). (at-records .records .at) + 2 + z) (size-by (at-start .args .book .now) (at-records .records .at) _ (at-get2 .get2 .ensures)))
 
 returns-2 : At tie.Need-returns-2
 returns-2 c =
@@ -277,7 +301,8 @@ returns-5 c =
     let at-too-many = at-if5 .before in
     let at-if4 = at-too-many .before in
     let at-get22 = at-if4 .before .before in
-    many-3 (known-at at-get22) (sym (headless-is (known-at at-get22)) ∙ (at-if4 .if4 .left)) ((sym (many-is (known-at at-get22)) ∙ sym (at-too-many .too-many .ensures)) ∙ (at-if5 .if5 .taken))
+    many-3 (known-at at-get22) (sym (headless-is (known-at at-get22)) ∙ (at-if4 .if4 .left))
+    ((sym (many-is (known-at at-get22)) ∙ sym (at-too-many .too-many .ensures)) ∙ (at-if5 .if5 .taken))
 
 returns-6 : At tie.Need-returns-6
 returns-6 c =
@@ -287,7 +312,9 @@ returns-6 c =
     let at-too-many = at-if5 .before in
     let at-if4 = at-too-many .before in
     let at-get22 = at-if4 .before .before in
-    fields-4 (known-at at-get22) (sym (headless-is (known-at at-get22)) ∙ (at-if4 .if4 .left)) ((sym (many-is (known-at at-get22)) ∙ sym (at-too-many .too-many .ensures)) ∙ (at-if5 .if5 .left)) (sym (at-bad-fields .bad-fields .ensures) ∙ (at-if6 .if6 .taken))
+    fields-4 (known-at at-get22) (sym (headless-is (known-at at-get22)) ∙ (at-if4 .if4 .left))
+    ((sym (many-is (known-at at-get22)) ∙ sym (at-too-many .too-many .ensures)) ∙ (at-if5 .if5 .left))
+    (sym (at-bad-fields .bad-fields .ensures) ∙ (at-if6 .if6 .taken))
 
 returns-7 : At tie.Need-returns-7
 returns-7 c =
@@ -300,7 +327,9 @@ returns-7 c =
     let at-too-many = at-if5 .before in
     let at-if4 = at-too-many .before in
     let at-get22 = at-if4 .before .before in
-    transition-9 (known-at at-get22) (at-if7 .if7 .taken) (sym (headless-is (known-at at-get22)) ∙ (at-if4 .if4 .left)) ((sym (many-is (known-at at-get22)) ∙ sym (at-too-many .too-many .ensures)) ∙ (at-if5 .if5 .left)) (sym (at-bad-fields .bad-fields .ensures) ∙ (at-if6 .if6 .left)) (sym (at-too-close .too-close .ensures) ∙ (at-if8 .if8 .taken))
+    transition-9 (known-at at-get22) (at-if7 .if7 .taken) (sym (headless-is (known-at at-get22)) ∙ (at-if4 .if4 .left))
+    ((sym (many-is (known-at at-get22)) ∙ sym (at-too-many .too-many .ensures)) ∙ (at-if5 .if5 .left))
+    (sym (at-bad-fields .bad-fields .ensures) ∙ (at-if6 .if6 .left)) (sym (at-too-close .too-close .ensures) ∙ (at-if8 .if8 .taken))
 
 returns-8 : At tie.Need-returns-8
 returns-8 c =
@@ -336,7 +365,8 @@ returns-11 c =
     let at-late-start = at-if10 .before in
     let at-points-test = at-late-start .before in
     let at-points = at-points-test .before in
-    reversed-7 (at-points .points .inv) (at-points-test .points-test .left) (sym (at-late-start .late-start .ensures) ∙ (at-if10 .if10 .left)) (at-if11 .if11 .left) (sym (at-is-reversed .is-reversed .ensures) ∙ (at-if12 .if12 .taken))
+    reversed-7 (at-points .points .inv) (at-points-test .points-test .left) (sym (at-late-start .late-start .ensures) ∙ (at-if10 .if10 .left))
+    (at-if11 .if11 .left) (sym (at-is-reversed .is-reversed .ensures) ∙ (at-if12 .if12 .taken))
 
 returns-12 : At tie.Need-returns-12
 returns-12 c =
@@ -349,7 +379,9 @@ returns-12 c =
     let at-late-start = at-if10 .before in
     let at-points-test = at-late-start .before in
     let at-points = at-points-test .before in
-    covers-8 (at-points .points .inv) (at-points-test .points-test .left) (sym (at-late-start .late-start .ensures) ∙ (at-if10 .if10 .left)) (at-if11 .if11 .left) (sym (at-is-reversed .is-reversed .ensures) ∙ (at-if12 .if12 .left)) (sym (at-covers-nothing .covers-nothing .ensures) ∙ (at-if13 .if13 .taken))
+    covers-8 (at-points .points .inv) (at-points-test .points-test .left) (sym (at-late-start .late-start .ensures) ∙ (at-if10 .if10 .left))
+    (at-if11 .if11 .left) (sym (at-is-reversed .is-reversed .ensures) ∙ (at-if12 .if12 .left))
+    (sym (at-covers-nothing .covers-nothing .ensures) ∙ (at-if13 .if13 .taken))
 
 pub check-spec : {M : Type 1} → statement M
 check-spec =

@@ -26,7 +26,11 @@ returns c =
     let at-enum-told = c in
     let at-governing = at-enum-told .before .before in
     let at-start = at-governing .before .before .before .before .before in
-    (day-none (zoneOf (at-start .args .first) ((at-start .args .ats) .now) ((at-start .args .offsets) .now)) (governing (map (ruleAt ((at-start .args .book) .now)) ((at-start .args .rules) .now))) ((at-start .args .d) .0) ((at-start .args .t) .0) (sym ((at-governing .governing .ensures) .0) ∙ ap (ruled ((at-start .args .book) .now)) ((at-enum-told .enum-told .given) .1)), tt)
+    let args = at-start .args in (
+      day-none (zoneOf (args .first) (args .ats .now) (args .offsets .now)) (governing (map (ruleAt (args .book .now)) (args .rules .now)))
+          (args .d .0) (args .t .0) (sym (at-governing .governing .ensures .0) ∙ ap (ruled (args .book .now)) (at-enum-told .enum-told .given .1)),
+      tt,
+    )
 
 returns-2 : tie.Need-returns-2
 returns-2 c =
@@ -34,7 +38,12 @@ returns-2 c =
     let at-rule = at-span-after .before .before in
     let at-governing = at-rule .before .before in
     let at-start = at-governing .before .before .before .before .before in
-    (day-some (zoneOf (at-start .args .first) ((at-start .args .ats) .now) ((at-start .args .offsets) .now)) (governing (map (ruleAt ((at-start .args .book) .now)) ((at-start .args .rules) .now))) ((at-start .args .d) .0) ((at-start .args .t) .0) _ (sym ((at-governing .governing .ensures) .0) ∙ ap (ruled ((at-start .args .book) .now)) ((at-rule .rule .given) .1)) _ ((at-span-after .span-after .ensures) .0), (at-span-after .span-after .ensures) .1)
+    let args = at-start .args in (
+      day-some (zoneOf (args .first) (args .ats .now) (args .offsets .now)) (governing (map (ruleAt (args .book .now)) (args .rules .now)))
+          (args .d .0) (args .t .0) _ (sym (at-governing .governing .ensures .0) ∙ ap (ruled (args .book .now)) (at-rule .rule .given .1)) _
+          (at-span-after .span-after .ensures .0),
+      (at-span-after .span-after .ensures .1),
+    )
 
 pub day-span-after-spec : {M : Type 1} → statement M
 day-span-after-spec =

@@ -20,13 +20,23 @@ returns : tie.Need-returns
 returns c =
     let at-if1 = c in
     let at-start = at-if1 .before .before .before .before .before .before .before in
-    (point-before (venueBy (zoneOf (at-start .args .first) ((at-start .args .ats) .now) ((at-start .args .offsets) .now)) (governing (map (ruleAt ((at-start .args .book) .now)) ((at-start .args .rules) .now)))) _ ((at-start .args .t) .0) (at-if1 .if1 .taken), tt)
+    let args = at-start .args in (
+      point-before
+          (venueBy (zoneOf (args .first) (args .ats .now) (args .offsets .now)) (governing (map (ruleAt (args .book .now)) (args .rules .now)))) _
+          (args .t .0) (at-if1 .if1 .taken),
+      tt,
+    )
 
 returns-2 : tie.Need-returns-2
 returns-2 c =
     let at-if2 = c in
     let at-start = at-if2 .before .before .before .before .before .before .before .before .before .before in
-    (point-behind (venueBy (zoneOf (at-start .args .first) ((at-start .args .ats) .now) ((at-start .args .offsets) .now)) (governing (map (ruleAt ((at-start .args .book) .now)) ((at-start .args .rules) .now)))) _ ((at-start .args .t) .0) (at-if2 .if2 .taken), tt)
+    let args = at-start .args in (
+      point-behind
+          (venueBy (zoneOf (args .first) (args .ats .now) (args .offsets .now)) (governing (map (ruleAt (args .book .now)) (args .rules .now)))) _
+          (args .t .0) (at-if2 .if2 .taken),
+      tt,
+    )
 
 day-at-requires : tie.Need-day-at-requires
 day-at-requires c κs =
@@ -37,7 +47,9 @@ add-t15 : tie.Need-add-t15
 add-t15 c =
     let at-day-at = c .before .before in
     let at-start = at-day-at .before .before .before .before .before .before .before .before .before .before .before in
-    let e = (at-day-at .day-at .ensures) in omega (arith, date-small (at-start .args .first) ((at-start .args .ats) .now) ((at-start .args .offsets) .now) ((at-start .args .t) .0) ((at-start .pre) .0))
+    let args = at-start .args in
+    let e = at-day-at .day-at .ensures in
+    omega (arith, date-small (args .first) (args .ats .now) (args .offsets .now) (args .t .0) (at-start .pre .0))
 
 day-holding-requires : tie.Need-day-holding-requires
 day-holding-requires c κs =
@@ -63,7 +75,13 @@ returns-3 c =
     let at-if2 = at-day-at .before in
     let at-if1 = at-if2 .before .before .before in
     let at-start = at-if1 .before .before .before .before .before .before .before in
-    (by-first (venueBy (zoneOf (at-start .args .first) ((at-start .args .ats) .now) ((at-start .args .offsets) .now)) (governing (map (ruleAt ((at-start .args .book) .now)) ((at-start .args .rules) .now)))) _ ((at-start .args .t) .0) (at-if1 .if1 .left) (at-if2 .if2 .left) _ (at-day-at .day-at .ensures) _ (ap (held ((at-start .args .book) .now)) (sym ((at-g .g .given) .1)) ∙ ((at-day-holding .day-holding .ensures) .0 ∙ ap ((λ (d : ℕ). look (λ (h : Held). h) (spans (venueBy (zoneOf (at-start .args .first) ((at-start .args .ats) .now) ((at-start .args .offsets) .now)) (governing (map (ruleAt ((at-start .args .book) .now)) ((at-start .args .rules) .now)))) d) ((at-start .args .t) .0))) (at-day-before .day-before .ensures))), subst (Placed ((at-start .args .book) .now)) ((at-g .g .given) .1) ((at-day-holding .day-holding .ensures) .1))
+    let args = at-start .args in
+    let v = venueBy (zoneOf (args .first) (args .ats .now) (args .offsets .now)) (governing (map (ruleAt (args .book .now)) (args .rules .now))) in (
+      by-first v _ (args .t .0) (at-if1 .if1 .left) (at-if2 .if2 .left) _ (at-day-at .day-at .ensures) _ (ap (held (args .book .now))
+          (sym (at-g .g .given .1)) ∙ ((at-day-holding .day-holding .ensures .0) ∙ ap (λ (d : ℕ). look (λ (h : Held). h) (spans v d) (args .t .0))
+          (at-day-before .day-before .ensures))),
+      subst (Placed (args .book .now)) (at-g .g .given .1) (at-day-holding .day-holding .ensures .1),
+    )
 
 returns-4 : tie.Need-returns-4
 returns-4 c =
@@ -76,7 +94,16 @@ returns-4 c =
     let at-if2 = at-day-at .before in
     let at-if1 = at-if2 .before .before .before in
     let at-start = at-if1 .before .before .before .before .before .before .before in
-    (by-second (venueBy (zoneOf (at-start .args .first) ((at-start .args .ats) .now) ((at-start .args .offsets) .now)) (governing (map (ruleAt ((at-start .args .book) .now)) ((at-start .args .rules) .now)))) _ ((at-start .args .t) .0) (at-if1 .if1 .left) (at-if2 .if2 .left) _ (at-day-at .day-at .ensures) (ap (held ((at-start .args .book) .now)) (sym ((at-enum-told .enum-told .given) .1)) ∙ ((at-day-holding .day-holding .ensures) .0 ∙ ap ((λ (d : ℕ). look (λ (h : Held). h) (spans (venueBy (zoneOf (at-start .args .first) ((at-start .args .ats) .now) ((at-start .args .offsets) .now)) (governing (map (ruleAt ((at-start .args .book) .now)) ((at-start .args .rules) .now)))) d) ((at-start .args .t) .0))) (at-day-before .day-before .ensures))) _ (ap (held ((at-start .args .book) .now)) (sym ((at-g2 .g2 .given) .1)) ∙ (at-day-holding2 .day-holding2 .ensures) .0), subst (Placed ((at-start .args .book) .now)) ((at-g2 .g2 .given) .1) ((at-day-holding2 .day-holding2 .ensures) .1))
+    let args = at-start .args in
+    let v = venueBy (zoneOf (args .first) (args .ats .now) (args .offsets .now)) (governing (map (ruleAt (args .book .now)) (args .rules .now))) in
+    let held-is = held (args .book .now) in (
+      by-second v _ (args .t .0) (at-if1 .if1 .left) (at-if2 .if2 .left) _ (at-day-at .day-at .ensures) (ap held-is
+          (sym (at-enum-told .enum-told .given .1)) ∙ ((at-day-holding .day-holding .ensures .0) ∙ ap
+          (λ (d : ℕ). look (λ (h : Held). h) (spans v d) (args .t .0)) (at-day-before .day-before .ensures))) _
+          (ap held-is (sym (at-g2 .g2 .given .1)) ∙ (at-day-holding2 .day-holding2 .ensures) .0),
+      subst (Placed (args .book .now)) (at-g2 .g2 .given .1)
+          (at-day-holding2 .day-holding2 .ensures .1),
+    )
 
 returns-5 : tie.Need-returns-5
 returns-5 c =
@@ -90,7 +117,16 @@ returns-5 c =
     let at-if2 = at-day-at .before in
     let at-if1 = at-if2 .before .before .before in
     let at-start = at-if1 .before .before .before .before .before .before .before in
-    (by-third (venueBy (zoneOf (at-start .args .first) ((at-start .args .ats) .now) ((at-start .args .offsets) .now)) (governing (map (ruleAt ((at-start .args .book) .now)) ((at-start .args .rules) .now)))) _ ((at-start .args .t) .0) (at-if1 .if1 .left) (at-if2 .if2 .left) _ (at-day-at .day-at .ensures) (ap (held ((at-start .args .book) .now)) (sym ((at-enum-told .enum-told .given) .1)) ∙ ((at-day-holding .day-holding .ensures) .0 ∙ ap ((λ (d : ℕ). look (λ (h : Held). h) (spans (venueBy (zoneOf (at-start .args .first) ((at-start .args .ats) .now) ((at-start .args .offsets) .now)) (governing (map (ruleAt ((at-start .args .book) .now)) ((at-start .args .rules) .now)))) d) ((at-start .args .t) .0))) (at-day-before .day-before .ensures))) (ap (held ((at-start .args .book) .now)) (sym ((at-enum-told2 .enum-told2 .given) .1)) ∙ (at-day-holding2 .day-holding2 .ensures) .0) _ ((at-day-holding3 .day-holding3 .ensures) .0 ∙ ap ((λ (d : ℕ). look (λ (h : Held). h) (spans (venueBy (zoneOf (at-start .args .first) ((at-start .args .ats) .now) ((at-start .args .offsets) .now)) (governing (map (ruleAt ((at-start .args .book) .now)) ((at-start .args .rules) .now)))) d) ((at-start .args .t) .0))) (add-one _)), (at-day-holding3 .day-holding3 .ensures) .1)
+    let args = at-start .args in
+    let v = venueBy (zoneOf (args .first) (args .ats .now) (args .offsets .now)) (governing (map (ruleAt (args .book .now)) (args .rules .now))) in
+    let held-is = held (args .book .now) in (
+      by-third v _ (args .t .0) (at-if1 .if1 .left) (at-if2 .if2 .left) _ (at-day-at .day-at .ensures) (ap held-is
+          (sym (at-enum-told .enum-told .given .1)) ∙ ((at-day-holding .day-holding .ensures .0) ∙ ap
+          (λ (d : ℕ). look (λ (h : Held). h) (spans v d) (args .t .0)) (at-day-before .day-before .ensures)))
+          (ap held-is (sym (at-enum-told2 .enum-told2 .given .1)) ∙ (at-day-holding2 .day-holding2 .ensures) .0) _
+          ((at-day-holding3 .day-holding3 .ensures .0) ∙ ap (λ (d : ℕ). look (λ (h : Held). h) (spans v d) (args .t .0)) (add-one _)),
+      (at-day-holding3 .day-holding3 .ensures .1),
+    )
 
 pub point-spec : {M : Type 1} → statement M
 point-spec =

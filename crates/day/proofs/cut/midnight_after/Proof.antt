@@ -19,7 +19,9 @@ returns-2 : tie.Need-returns-2
 returns-2 c =
     let at-to-utc-at2 = c in
     let at-start = at-to-utc-at2 .before .before .before .before in
-    (at-to-utc-at2 .to-utc-at2 .ensures) ∙ ap (λ (i : ℕ). boundaryAt (zoneOf (at-start .args .first) ((at-start .args .ats) .now) ((at-start .args .offsets) .now)) i 0 (at-start .args .published)) (add-one ((at-start .args .d) .0))
+    let args = at-start .args in
+    (at-to-utc-at2 .to-utc-at2 .ensures) ∙ ap
+    (λ (i : ℕ). boundaryAt (zoneOf (args .first) (args .ats .now) (args .offsets .now)) i 0 (args .published)) (add-one (args .d .0))
 
 pub midnight-after-spec : {M : Type 1} → statement M
 midnight-after-spec =

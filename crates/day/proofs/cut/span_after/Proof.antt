@@ -56,7 +56,13 @@ loop-holds c =
     let at-rule-points = at-point-time .before in
     let at-rule-uncertainty = at-rule-points .before in
     let at-start = at-rule-uncertainty .before .before .before .before in
-    (omega (arith, ((at-rule-points .rule-points .ensures)) .1), filled-first (zoneOf (at-start .args .first) ((at-start .args .ats) .now) ((at-start .args .offsets) .now)) (ruleAt ((at-start .args .book) .now) (at-start .args .rule)) ((at-start .args .d) .0) _ refl ((at-to-utc-at .to-utc-at .ensures) ∙ (ap₂ (λ (x : ℕ) (u : Uncertainty). boundaryAt (zoneOf (at-start .args .first) ((at-start .args .ats) .now) ((at-start .args .offsets) .now)) ((at-start .args .d) .0) x u)) ((at-point-time .point-time .ensures) .0) (at-rule-uncertainty .rule-uncertainty .ensures)))
+    let args = at-start .args in
+    let zoneOf-is = zoneOf (args .first) (args .ats .now) (args .offsets .now) in (
+      omega (arith, (at-rule-points .rule-points .ensures .1)),
+      filled-first zoneOf-is (ruleAt (args .book .now) (args .rule)) (args .d .0) _ refl
+          ((at-to-utc-at .to-utc-at .ensures) ∙ (ap₂ (λ (x : ℕ) (u : Uncertainty). boundaryAt zoneOf-is (args .d .0) x u))
+          (at-point-time .point-time .ensures .0) (at-rule-uncertainty .rule-uncertainty .ensures)),
+    )
 
 point-time-requires-2 : tie.Need-point-time-requires-2 Inv-loop μ-loop Inv-loop2 μ-loop2
 point-time-requires-2 c κs =
@@ -126,7 +132,17 @@ loop-again c =
     let at-rule-points = at-loop .before .before .before in
     let at-rule-uncertainty = at-rule-points .before in
     let at-start = at-rule-uncertainty .before .before .before .before in
-    (omega (arith, (at-loop-test .loop-test .taken)), filled-next (zoneOf (at-start .args .first) ((at-start .args .ats) .now) ((at-start .args .offsets) .now)) (ruleAt ((at-start .args .book) .now) (at-start .args .rule)) ((at-start .args .d) .0) (at-loop .loop .boundaries) (at-loop .loop .i) _ _ _ ((at-loop .loop .inv) .1) (omega (arith, (at-loop-test .loop-test .taken), ((at-rule-points .rule-points .ensures)) .2)) (at-raised .raised .ensures) (ap (λ (b : Boundary). b .at .0) (read (at-loop .loop .boundaries) _ _ (omega (arith, (at-loop-test .loop-test .taken), (at-loop .loop .inv) .1 .long, ((at-rule-points .rule-points .ensures)) .2)))) ((at-to-utc-at2 .to-utc-at2 .ensures) ∙ (ap₂ (λ (x : ℕ) (u : Uncertainty). boundaryAt (zoneOf (at-start .args .first) ((at-start .args .ats) .now) ((at-start .args .offsets) .now)) ((at-start .args .d) .0) x u)) ((at-point-time2 .point-time2 .ensures) .0) (at-rule-uncertainty .rule-uncertainty .ensures)))
+    let loop-test-taken = at-loop-test .loop-test .taken in
+    let args = at-start .args in
+    let zoneOf-is = zoneOf (args .first) (args .ats .now) (args .offsets .now) in (
+      omega (arith, loop-test-taken),
+      filled-next zoneOf-is (ruleAt (args .book .now) (args .rule)) (args .d .0) (at-loop .loop .boundaries)
+          (at-loop .loop .i) _ _ _ (at-loop .loop .inv .1) (omega (arith, loop-test-taken, (at-rule-points .rule-points .ensures .2)))
+          (at-raised .raised .ensures) (ap (λ (b : Boundary). b .at .0)
+          (read (at-loop .loop .boundaries) _ _ (omega (arith, loop-test-taken, (at-loop .loop .inv .1 .long), (at-rule-points .rule-points .ensures .2)))))
+          ((at-to-utc-at2 .to-utc-at2 .ensures) ∙ (ap₂ (λ (x : ℕ) (u : Uncertainty). boundaryAt zoneOf-is (args .d .0) x u))
+          (at-point-time2 .point-time2 .ensures .0) (at-rule-uncertainty .rule-uncertainty .ensures)),
+    )
 
 midnight-after-requires : tie.Need-midnight-after-requires Inv-loop μ-loop Inv-loop2 μ-loop2
 midnight-after-requires c κs =
@@ -213,7 +229,28 @@ returns c =
     let at-rule-points = at-loop .before .before .before in
     let at-rule-uncertainty = at-rule-points .before in
     let at-start = at-rule-uncertainty .before .before .before .before in
-    (scan-answer (zoneOf (at-start .args .first) ((at-start .args .ats) .now) ((at-start .args .offsets) .now)) (ruleAt ((at-start .args .book) .now) (at-start .args .rule)) ((at-start .args .d) .0) (set (at-loop .loop .boundaries) (at-rule-points .rule-points .result) (at-raised2 .raised2 .result)) ((at-start .args .t) .0) (ended-at (zoneOf (at-start .args .first) ((at-start .args .ats) .now) ((at-start .args .offsets) .now)) (ruleAt ((at-start .args .book) .now) (at-start .args .rule)) ((at-start .args .d) .0) (ended (zoneOf (at-start .args .first) ((at-start .args .ats) .now) ((at-start .args .offsets) .now)) (ruleAt ((at-start .args .book) .now) (at-start .args .rule)) ((at-start .args .d) .0) (at-loop .loop .boundaries) (at-rule-points .rule-points .result) _ _ _ (filled-at (zoneOf (at-start .args .first) ((at-start .args .ats) .now) ((at-start .args .offsets) .now)) (ruleAt ((at-start .args .book) .now) (at-start .args .rule)) ((at-start .args .d) .0) ((at-loop .loop .inv) .1) (omega (arith, (at-loop-test .loop-test .left), (at-loop .loop .inv) .0))) (omega (arith, ((at-rule-points .rule-points .ensures)) .2)) (at-raised2 .raised2 .ensures) (ap (λ (b : Boundary). b .at .0) (read (at-loop .loop .boundaries) _ _ (omega (arith, (at-loop .loop .inv) .1 .long, ((at-rule-points .rule-points .ensures)) .1, ((at-rule-points .rule-points .ensures)) .2)))) ((at-midnight-after .midnight-after .ensures) ∙ ap (boundaryAt (zoneOf (at-start .args .first) ((at-start .args .ats) .now) ((at-start .args .offsets) .now)) (suc ((at-start .args .d) .0)) 0) (at-rule-uncertainty .rule-uncertainty .ensures))) (((at-rule-points .rule-points .ensures)) .0)) (at-loop2 .loop2 .k) (omega (arith, (at-loop2-test .loop2-test .taken), ((at-rule-points .rule-points .ensures)) .0)) ((at-loop2 .loop2 .inv) .1) (tested-by (set (at-loop .loop .boundaries) (at-rule-points .rule-points .result) (at-raised2 .raised2 .result)) ((at-start .args .t) .0) (at-loop2 .loop2 .k) (read (set (at-loop .loop .boundaries) (at-rule-points .rule-points .result) (at-raised2 .raised2 .result)) (at-loop2 .loop2 .k) _ (omega (arith, (length-set (at-loop .loop .boundaries) (at-rule-points .rule-points .result) (at-raised2 .raised2 .result) ∙ (at-loop .loop .inv) .1 .long), (at-loop2-test .loop2-test .taken), ((at-rule-points .rule-points .ensures)) .2))) (read (set (at-loop .loop .boundaries) (at-rule-points .rule-points .result) (at-raised2 .raised2 .result)) ((at-loop2 .loop2 .k) + 1) _ (omega (arith, (length-set (at-loop .loop .boundaries) (at-rule-points .rule-points .result) (at-raised2 .raised2 .result) ∙ (at-loop .loop .inv) .1 .long), (at-loop2-test .loop2-test .taken), ((at-rule-points .rule-points .ensures)) .2))) (at-ends-after .ends-after .ensures) (at-if1 .if1 .taken)) (read (set (at-loop .loop .boundaries) (at-rule-points .rule-points .result) (at-raised2 .raised2 .result)) (at-loop2 .loop2 .k) _ (omega (arith, (length-set (at-loop .loop .boundaries) (at-rule-points .rule-points .result) (at-raised2 .raised2 .result) ∙ (at-loop .loop .inv) .1 .long), (at-loop2-test .loop2-test .taken), ((at-rule-points .rule-points .ensures)) .2))) (read (set (at-loop .loop .boundaries) (at-rule-points .rule-points .result) (at-raised2 .raised2 .result)) ((at-loop2 .loop2 .k) + 1) _ (omega (arith, (length-set (at-loop .loop .boundaries) (at-rule-points .rule-points .result) (at-raised2 .raised2 .result) ∙ (at-loop .loop .inv) .1 .long), (at-loop2-test .loop2-test .taken), ((at-rule-points .rule-points .ensures)) .2))) ((at-point-phase .point-phase .ensures) .0), ((at-start .pre) .1))
+    let rule-points-holds2 = at-rule-points .rule-points .ensures .2 in
+    let rule-points = at-rule-points .rule-points .result in
+    let as-long = length-set (at-loop .loop .boundaries) rule-points (at-raised2 .raised2 .result) ∙ (at-loop .loop .inv) .1 .long in
+    let written = set (at-loop .loop .boundaries) rule-points (at-raised2 .raised2 .result) in
+    let loop2-test-taken = at-loop2-test .loop2-test .taken in
+    let value = read written ((at-loop2 .loop2 .k) + 1) _ (omega (arith, as-long, loop2-test-taken, rule-points-holds2)) in
+    let value2 = read written (at-loop2 .loop2 .k) _ (omega (arith, as-long, loop2-test-taken, rule-points-holds2)) in
+    let args = at-start .args in
+    let zoneOf-is = zoneOf (args .first) (args .ats .now) (args .offsets .now) in
+    let ruleAt-is = ruleAt (args .book .now) (args .rule) in (
+      scan-answer zoneOf-is ruleAt-is (args .d .0) written (args .t .0) (ended-at zoneOf-is ruleAt-is (args .d .0) (ended zoneOf-is ruleAt-is
+          (args .d .0) (at-loop .loop .boundaries) rule-points _ _ _
+          (filled-at zoneOf-is ruleAt-is (args .d .0) (at-loop .loop .inv .1) (omega (arith, (at-loop-test .loop-test .left), (at-loop .loop .inv .0))))
+          (omega (arith, rule-points-holds2)) (at-raised2 .raised2 .ensures) (ap (λ (b : Boundary). b .at .0) (read (at-loop .loop .boundaries) _ _
+          (omega (arith, (at-loop .loop .inv .1 .long), (at-rule-points .rule-points .ensures .1), rule-points-holds2))))
+          ((at-midnight-after .midnight-after .ensures) ∙ ap (boundaryAt zoneOf-is (suc (args .d .0)) 0) (at-rule-uncertainty .rule-uncertainty .ensures)))
+          (at-rule-points .rule-points .ensures .0)) (at-loop2 .loop2 .k) (omega (arith, loop2-test-taken, (at-rule-points .rule-points .ensures .0)))
+          (at-loop2 .loop2 .inv .1)
+          (tested-by written (args .t .0) (at-loop2 .loop2 .k) value2 value (at-ends-after .ends-after .ensures) (at-if1 .if1 .taken)) value2 value
+          (at-point-phase .point-phase .ensures .0),
+      (at-start .pre .1),
+    )
 
 add-k : tie.Need-add-k Inv-loop μ-loop Inv-loop2 μ-loop2
 add-k c =
@@ -237,7 +274,16 @@ loop2-again c =
     let at-loop = at-raised2 .before .before .before .before in
     let at-rule-points = at-loop .before .before .before in
     let at-start = at-rule-points .before .before .before .before .before in
-    (omega (arith, (at-loop2-test .loop2-test .taken)), below-more _ (at-loop2 .loop2 .k) ((at-loop2 .loop2 .inv) .1) (tested-by (set (at-loop .loop .boundaries) (at-rule-points .rule-points .result) (at-raised2 .raised2 .result)) ((at-start .args .t) .0) (at-loop2 .loop2 .k) (read (set (at-loop .loop .boundaries) (at-rule-points .rule-points .result) (at-raised2 .raised2 .result)) (at-loop2 .loop2 .k) _ (omega (arith, (length-set (at-loop .loop .boundaries) (at-rule-points .rule-points .result) (at-raised2 .raised2 .result) ∙ (at-loop .loop .inv) .1 .long), (at-loop2-test .loop2-test .taken), ((at-rule-points .rule-points .ensures)) .2))) (read (set (at-loop .loop .boundaries) (at-rule-points .rule-points .result) (at-raised2 .raised2 .result)) ((at-loop2 .loop2 .k) + 1) _ (omega (arith, (length-set (at-loop .loop .boundaries) (at-rule-points .rule-points .result) (at-raised2 .raised2 .result) ∙ (at-loop .loop .inv) .1 .long), (at-loop2-test .loop2-test .taken), ((at-rule-points .rule-points .ensures)) .2))) (at-ends-after .ends-after .ensures) (at-if1 .if1 .left)))
+    let as-long = length-set (at-loop .loop .boundaries) (at-rule-points .rule-points .result) (at-raised2 .raised2 .result) ∙
+    (at-loop .loop .inv) .1 .long in
+    let written = set (at-loop .loop .boundaries) (at-rule-points .rule-points .result) (at-raised2 .raised2 .result) in
+    let loop2-test-taken = at-loop2-test .loop2-test .taken in (
+      omega (arith, loop2-test-taken),
+      below-more _ (at-loop2 .loop2 .k) (at-loop2 .loop2 .inv .1) (tested-by written (at-start .args .t .0)
+          (at-loop2 .loop2 .k) (read written (at-loop2 .loop2 .k) _ (omega (arith, as-long, loop2-test-taken, (at-rule-points .rule-points .ensures .2))))
+          (read written ((at-loop2 .loop2 .k) + 1) _ (omega (arith, as-long, loop2-test-taken, (at-rule-points .rule-points .ensures .2))))
+          (at-ends-after .ends-after .ensures) (at-if1 .if1 .left)),
+    )
 
 returns-2 : tie.Need-returns-2 Inv-loop μ-loop Inv-loop2 μ-loop2
 returns-2 c =
@@ -250,7 +296,21 @@ returns-2 c =
     let at-rule-points = at-loop .before .before .before in
     let at-rule-uncertainty = at-rule-points .before in
     let at-start = at-rule-uncertainty .before .before .before .before in
-    (sym (scan-none (zoneOf (at-start .args .first) ((at-start .args .ats) .now) ((at-start .args .offsets) .now)) (ruleAt ((at-start .args .book) .now) (at-start .args .rule)) ((at-start .args .d) .0) (set (at-loop .loop .boundaries) (at-rule-points .rule-points .result) (at-raised2 .raised2 .result)) ((at-start .args .t) .0) (ended-at (zoneOf (at-start .args .first) ((at-start .args .ats) .now) ((at-start .args .offsets) .now)) (ruleAt ((at-start .args .book) .now) (at-start .args .rule)) ((at-start .args .d) .0) (ended (zoneOf (at-start .args .first) ((at-start .args .ats) .now) ((at-start .args .offsets) .now)) (ruleAt ((at-start .args .book) .now) (at-start .args .rule)) ((at-start .args .d) .0) (at-loop .loop .boundaries) (at-rule-points .rule-points .result) _ _ _ (filled-at (zoneOf (at-start .args .first) ((at-start .args .ats) .now) ((at-start .args .offsets) .now)) (ruleAt ((at-start .args .book) .now) (at-start .args .rule)) ((at-start .args .d) .0) ((at-loop .loop .inv) .1) (omega (arith, (at-loop-test .loop-test .left), (at-loop .loop .inv) .0))) (omega (arith, ((at-rule-points .rule-points .ensures)) .2)) (at-raised2 .raised2 .ensures) (ap (λ (b : Boundary). b .at .0) (read (at-loop .loop .boundaries) _ _ (omega (arith, (at-loop .loop .inv) .1 .long, ((at-rule-points .rule-points .ensures)) .1, ((at-rule-points .rule-points .ensures)) .2)))) ((at-midnight-after .midnight-after .ensures) ∙ ap (boundaryAt (zoneOf (at-start .args .first) ((at-start .args .ats) .now) ((at-start .args .offsets) .now)) (suc ((at-start .args .d) .0)) 0) (at-rule-uncertainty .rule-uncertainty .ensures))) (((at-rule-points .rule-points .ensures)) .0)) (λ j h. (at-loop2 .loop2 .inv) .1 j (omega (arith, (at-loop2-test .loop2-test .left), (at-loop2 .loop2 .inv) .0, ((at-rule-points .rule-points .ensures)) .0)))), tt)
+    let args = at-start .args in
+    let zoneOf-is = zoneOf (args .first) (args .ats .now) (args .offsets .now) in
+    let ruleAt-is = ruleAt (args .book .now) (args .rule) in (
+      sym (scan-none zoneOf-is ruleAt-is (args .d .0)
+          (set (at-loop .loop .boundaries) (at-rule-points .rule-points .result) (at-raised2 .raised2 .result)) (args .t .0) (ended-at zoneOf-is ruleAt-is
+          (args .d .0) (ended zoneOf-is ruleAt-is (args .d .0) (at-loop .loop .boundaries) (at-rule-points .rule-points .result) _ _ _
+          (filled-at zoneOf-is ruleAt-is (args .d .0) (at-loop .loop .inv .1) (omega (arith, (at-loop-test .loop-test .left), (at-loop .loop .inv .0))))
+          (omega (arith, (at-rule-points .rule-points .ensures .2))) (at-raised2 .raised2 .ensures) (ap (λ (b : Boundary). b .at .0) (read
+          (at-loop .loop .boundaries) _ _
+          (omega (arith, (at-loop .loop .inv .1 .long), (at-rule-points .rule-points .ensures .1), (at-rule-points .rule-points .ensures .2)))))
+          ((at-midnight-after .midnight-after .ensures) ∙ ap (boundaryAt zoneOf-is (suc (args .d .0)) 0) (at-rule-uncertainty .rule-uncertainty .ensures)))
+          (at-rule-points .rule-points .ensures .0)) (λ j h. (at-loop2 .loop2 .inv) .1 j
+          (omega (arith, (at-loop2-test .loop2-test .left), (at-loop2 .loop2 .inv .0), (at-rule-points .rule-points .ensures .0))))),
+      tt,
+    )
 
 pub span-after-spec : {M : Type 1} → statement M
 span-after-spec =

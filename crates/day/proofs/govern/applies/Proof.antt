@@ -21,7 +21,8 @@ returns-2 c =
     let at-if1 = at-rule-last .before in
     let at-rule-first = at-if1 .before .before .before in
     let at-start = at-rule-first .before .before in
-    late (ruleAt (at-start .args .book .now) (at-start .args .at)) (at-start .args .d .0) (omega (arith, at-rule-first .rule-first .ensures .0, at-if1 .if1 .left)) (omega (arith, at-rule-last .rule-last .ensures .0, at-if2 .if2 .taken))
+    late (ruleAt (at-start .args .book .now) (at-start .args .at)) (at-start .args .d .0)
+    (omega (arith, at-rule-first .rule-first .ensures .0, at-if1 .if1 .left)) (omega (arith, at-rule-last .rule-last .ensures .0, at-if2 .if2 .taken))
 
 returns-3 : tie.Need-returns-3
 returns-3 c =
@@ -32,7 +33,9 @@ returns-3 c =
     let at-if1 = at-rule-last .before in
     let at-rule-first = at-if1 .before .before .before in
     let at-start = at-rule-first .before .before in
-    special-on (ruleAt (at-start .args .book .now) (at-start .args .at)) (at-start .args .d .0) (omega (arith, at-rule-first .rule-first .ensures .0, at-if1 .if1 .left)) (omega (arith, at-rule-last .rule-last .ensures .0, at-if2 .if2 .left)) (λ e. (at-if3 .if3 .taken) ((at-rule-code .rule-code .ensures) .0 ∙ e))
+    special-on (ruleAt (at-start .args .book .now) (at-start .args .at)) (at-start .args .d .0)
+    (omega (arith, at-rule-first .rule-first .ensures .0, at-if1 .if1 .left)) (omega (arith, at-rule-last .rule-last .ensures .0, at-if2 .if2 .left))
+    (λ e. (at-if3 .if3 .taken) ((at-rule-code .rule-code .ensures .0) ∙ e))
 
 cast-marked : tie.Need-cast-marked
 cast-marked c =
@@ -57,7 +60,10 @@ returns-4 c =
     let at-if1 = at-rule-last .before in
     let at-rule-first = at-if1 .before .before .before in
     let at-start = at-rule-first .before .before in
-    (at-marked .marked .ensures) ∙ ap₂ marked (at-rule-mask .rule-mask .ensures .0) (at-weekday .weekday .ensures) ∙ weekly-on (ruleAt (at-start .args .book .now) (at-start .args .at)) (at-start .args .d .0) (omega (arith, at-rule-first .rule-first .ensures .0, at-if1 .if1 .left)) (omega (arith, at-rule-last .rule-last .ensures .0, at-if2 .if2 .left)) (sym (at-rule-code .rule-code .ensures .0) ∙ (at-if3 .if3 .left))
+    (at-marked .marked .ensures) ∙ ap₂ marked (at-rule-mask .rule-mask .ensures .0) (at-weekday .weekday .ensures) ∙ weekly-on
+    (ruleAt (at-start .args .book .now) (at-start .args .at)) (at-start .args .d .0)
+    (omega (arith, at-rule-first .rule-first .ensures .0, at-if1 .if1 .left)) (omega (arith, at-rule-last .rule-last .ensures .0, at-if2 .if2 .left))
+    (sym (at-rule-code .rule-code .ensures .0) ∙ (at-if3 .if3 .left))
 
 pub applies-spec : {M : Type 1} → statement M
 applies-spec =

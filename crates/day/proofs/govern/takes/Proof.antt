@@ -31,7 +31,9 @@ returns-2 c =
     let at-applies = at-if1 .before in
     let at-start = at-applies .before .before in
     let a = at-start .args in
-    takes-over (a .book .now) (a .best) (a .at) (a .d .0) (at-applies .applies .ensures) (at-if1 .if1 .left) (at-best .best .given .1) ((at-precedence .precedence .ensures) ∙ ap precedence (at-rule-code .rule-code .ensures .0)) ((at-precedence2 .precedence2 .ensures) ∙ ap precedence (at-rule-code2 .rule-code2 .ensures .0)) (at-if2 .if2 .taken)
+    takes-over (a .book .now) (a .best) (a .at) (a .d .0) (at-applies .applies .ensures) (at-if1 .if1 .left) (at-best .best .given .1)
+    ((at-precedence .precedence .ensures) ∙ ap precedence (at-rule-code .rule-code .ensures .0))
+    ((at-precedence2 .precedence2 .ensures) ∙ ap precedence (at-rule-code2 .rule-code2 .ensures .0)) (at-if2 .if2 .taken)
 
 rule-first-requires : tie.Need-rule-first-requires
 rule-first-requires c κs =
@@ -62,7 +64,10 @@ returns-4 c =
     let at-applies = at-if1 .before in
     let at-start = at-applies .before .before in
     let a = at-start .args in
-    takes-level (a .book .now) (a .best) (a .at) (a .d .0) (at-applies .applies .ensures) (at-if1 .if1 .left) (at-best .best .given .1) ((at-precedence .precedence .ensures) ∙ ap precedence (at-rule-code .rule-code .ensures .0)) ((at-precedence2 .precedence2 .ensures) ∙ ap precedence (at-rule-code2 .rule-code2 .ensures .0)) (at-if2 .if2 .left) (at-rule-first .rule-first .ensures .0) (at-rule-first2 .rule-first2 .ensures .0)
+    takes-level (a .book .now) (a .best) (a .at) (a .d .0) (at-applies .applies .ensures) (at-if1 .if1 .left) (at-best .best .given .1)
+    ((at-precedence .precedence .ensures) ∙ ap precedence (at-rule-code .rule-code .ensures .0))
+    ((at-precedence2 .precedence2 .ensures) ∙ ap precedence (at-rule-code2 .rule-code2 .ensures .0)) (at-if2 .if2 .left)
+    (at-rule-first .rule-first .ensures .0) (at-rule-first2 .rule-first2 .ensures .0)
 
 pub takes-spec : {M : Type 1} → statement M
 takes-spec =

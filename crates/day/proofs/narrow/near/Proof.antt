@@ -71,7 +71,8 @@ loop-again c =
     let at-meets = at-if1 .before in
     let at-loop-test = at-meets .before .before in
     let at-loop = at-loop-test .before in
-    ⊎-elim (λ w. narrow-one ((at-loop .loop .inv)) ((at-loop-test .loop-test .taken)) ((at-meets .meets .ensures)) (w .0 .taken) (w .1) (w .2)) (λ w. narrow-none ((at-loop .loop .inv)) ((at-loop-test .loop-test .taken)) ((at-meets .meets .ensures)) (w .0 .left) (w .1) (w .2)) ((at-if1 .if1 .came))
+    ⊎-elim (λ w. narrow-one (at-loop .loop .inv) (at-loop-test .loop-test .taken) (at-meets .meets .ensures) (w .0 .taken) (w .1) (w .2))
+    (λ w. narrow-none (at-loop .loop .inv) (at-loop-test .loop-test .taken) (at-meets .meets .ensures) (w .0 .left) (w .1) (w .2)) (at-if1 .if1 .came)
 
 same-length : tie.Need-same-length Inv-loop μ-loop
 same-length c =

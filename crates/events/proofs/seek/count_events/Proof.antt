@@ -14,7 +14,11 @@ returns : tie.Need-returns
 returns c =
     let at-if1 = c in
     let at-start = at-if1 .before .before .before .before .before in
-    (sym (ap length (none-found (zoneOf (at-start .args .first) ((at-start .args .ats) .now) ((at-start .args .offsets) .now)) ((at-start .args .book) .now) ((at-start .args .events) .now) ((at-start .args .from) .0) ((at-start .args .to) .0) (omega (arith, (at-if1 .if1 .taken))))), omega arith)
+    let args = at-start .args in (
+      sym (ap length (none-found (zoneOf (args .first) (args .ats .now) (args .offsets .now)) (args .book .now) (args .events .now) (args .from .0)
+          (args .to .0) (omega (arith, (at-if1 .if1 .taken))))),
+      omega arith,
+    )
 
 returns-2 : tie.Need-returns-2
 returns-2 c =
@@ -22,8 +26,11 @@ returns-2 c =
     let at-collect = at-n .before .before .before .before in
     let at-start = at-collect .before .before .before .before .before .before .before .before in
     let pre = at-start .pre in
-    let all = collects-all ((at-start .args .book) .now) (at-start .args .first) ((at-start .args .ats) .now) ((at-start .args .offsets) .now) ((at-start .args .events) .now) (pre .0) (pre .1) (at-start .args .from .0) (at-start .args .to .0) (at-collect .collect .ensures) (at-n .n .given .1) in
-    let few = found-few ((at-start .args .book) .now) (at-start .args .first) ((at-start .args .ats) .now) ((at-start .args .offsets) .now) ((at-start .args .events) .now) (pre .0) (pre .1) (pre .2) (at-start .args .from .0) (at-start .args .to .0) in
+    let args = at-start .args in
+    let all = collects-all (args .book .now) (args .first) (args .ats .now) (args .offsets .now) (args .events .now) (pre .0) (pre .1) (args .from .0)
+    (args .to .0) (at-collect .collect .ensures) (at-n .n .given .1) in
+    let few = found-few (args .book .now) (args .first) (args .ats .now) (args .offsets .now) (args .events .now) (pre .0) (pre .1) (pre .2)
+    (args .from .0) (args .to .0) in
     (all .count, omega (arith, all .count, few))
 
 returns-3 : tie.Need-returns-3

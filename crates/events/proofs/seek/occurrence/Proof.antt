@@ -12,8 +12,10 @@ returns c =
     let at-to-utc-at = at-event-code .before in
     let at-event-uncertainty = at-to-utc-at .before in
     let at-start = at-event-uncertainty .before .before .before .before in
-    occurrence-by (zoneOf (at-start .args .first) ((at-start .args .ats) .now) ((at-start .args .offsets) .now)) ((at-start .args .d) .0) (at-start .args .time) (eventAt ((at-start .args .book) .now) (at-start .args .event))
-    _ _ _ _ (at-event-uncertainty .event-uncertainty .ensures) (at-to-utc-at .to-utc-at .ensures) (at-event-code .event-code .ensures) (at-event-evidence .event-evidence .ensures)
+    let args = at-start .args in
+    occurrence-by (zoneOf (args .first) (args .ats .now) (args .offsets .now)) (args .d .0) (args .time) (eventAt (args .book .now) (args .event)) _ _
+    _ _ (at-event-uncertainty .event-uncertainty .ensures) (at-to-utc-at .to-utc-at .ensures) (at-event-code .event-code .ensures)
+    (at-event-evidence .event-evidence .ensures)
 
 pub occurrence-spec : {M : Type 1} → statement M
 occurrence-spec =

@@ -44,8 +44,12 @@ on-times-requires : tie.Need-on-times-requires Inv-loop μ-loop
 on-times-requires c κs =
     let at-loop-test = c .before .before .before .before .before .before .before .before in
     let at-loop = at-loop-test .before in
-    let at-start = at-loop .before .before .before .before .before in
-    (at-start .pre .0, at-start .pre .1 (at-loop .loop .i) (at-loop-test .loop-test .taken), omega (arith, at-start .pre .3, at-start .pre .2, at-loop .loop .inv .few, at-loop-test .loop-test .taken))
+    let at-start = at-loop .before .before .before .before .before in (
+      at-start .pre .0,
+      at-start .pre .1 (at-loop .loop .i) (at-loop-test .loop-test .taken),
+      omega
+          (arith, at-start .pre .3, at-start .pre .2, at-loop .loop .inv .few, at-loop-test .loop-test .taken),
+    )
 
 loop-again : tie.Need-loop-again Inv-loop μ-loop
 loop-again c =
@@ -54,13 +58,10 @@ loop-again c =
     let at-loop-test = at-event-first .before .before in
     let at-loop = at-loop-test .before in
     let at-start = at-loop .before .before .before .before .before in
-    let z = zoneOf (at-start .args .first) ((at-start .args .ats) .now) ((at-start .args .offsets) .now) in
-    ⊎-elim
-    (λ w.
-    event-met z _ _ _ _ _ (at-loop .loop .inv) (at-loop-test .loop-test .taken) refl (at-event-first .event-first .ensures .0) (at-event-last .event-last .ensures .0)
-    (w .0 .taken) (w .1 .ensures .0) (w .1 .ensures .1) (w .2))
-    (λ w.
-    event-passed z _ _ _ _ _ (at-loop .loop .inv) (at-loop-test .loop-test .taken) refl (at-event-first .event-first .ensures .0) (at-event-last .event-last .ensures .0)
+    let z = zoneOf (at-start .args .first) (at-start .args .ats .now) (at-start .args .offsets .now) in
+    ⊎-elim (λ w. event-met z _ _ _ _ _ (at-loop .loop .inv) (at-loop-test .loop-test .taken) refl (at-event-first .event-first .ensures .0)
+    (at-event-last .event-last .ensures .0) (w .0 .taken) (w .1 .ensures .0) (w .1 .ensures .1) (w .2)) (λ w. event-passed z _ _ _ _ _
+    (at-loop .loop .inv) (at-loop-test .loop-test .taken) refl (at-event-first .event-first .ensures .0) (at-event-last .event-last .ensures .0)
     (w .0 .left) (w .1)) (c .if1 .came)
 
 returns : tie.Need-returns Inv-loop μ-loop

@@ -27,13 +27,14 @@ loop-again c =
     let at-loop = at-loop-test .before in
     let at-event-times = at-loop .before in
     let at-start = at-event-times .before .before .before .before in
-    let z = zoneOf (at-start .args .first) ((at-start .args .ats) .now) ((at-start .args .offsets) .now) in
-    let e = eventAt ((at-start .args .book) .now) (at-start .args .event) in
+    let args = at-start .args in
+    let z = zoneOf (args .first) (args .ats .now) (args .offsets .now) in
+    let e = eventAt (args .book .now) (args .event) in
     let h : at-loop .loop .i < length (e .times) = omega (arith, at-event-times .event-times .ensures .0, at-loop-test .loop-test .taken) in
     let asked = sym (at-happens .happens .ensures) in
-    ⊎-elim
-    (λ w. time-met z _ _ _ e (at-loop .loop .inv) h (at-event-time .event-time .ensures .0) (at-occurrence .occurrence .ensures) (asked ∙ w .0 .taken) (w .2 ∙ w .1 .ensures))
-    (λ w. time-passed z _ _ _ e (at-loop .loop .inv) h (at-event-time .event-time .ensures .0) (at-occurrence .occurrence .ensures) (asked ∙ w .0 .left) (w .1)) (c .if1 .came)
+    ⊎-elim (λ w. time-met z _ _ _ e (at-loop .loop .inv) h (at-event-time .event-time .ensures .0) (at-occurrence .occurrence .ensures)
+    (asked ∙ w .0 .taken) (w .2 ∙ w .1 .ensures)) (λ w. time-passed z _ _ _ e (at-loop .loop .inv) h (at-event-time .event-time .ensures .0)
+    (at-occurrence .occurrence .ensures) (asked ∙ w .0 .left) (w .1)) (c .if1 .came)
 
 returns : tie.Need-returns Inv-loop μ-loop
 returns c =

@@ -35,7 +35,8 @@ returns-3 c =
     let at-offset = at-on-steady-dates .before .before .before .before in
     let at-steady-offset = at-offset .before .before in
     let at-if1 = at-steady-offset .before in
-    all-kept _ _ _ _ (forward _ _ _ (at-if1 .if1 .left) (at-steady-offset .steady-offset .ensures) ∙ at-offset .offset .given .1) (at-on-steady-dates .on-steady-dates .ensures)
+    all-kept _ _ _ _ (forward _ _ _ (at-if1 .if1 .left) (at-steady-offset .steady-offset .ensures) ∙ at-offset .offset .given .1)
+    (at-on-steady-dates .on-steady-dates .ensures)
 
 pub collect-spec : {M : Type 1} → statement M
 collect-spec =

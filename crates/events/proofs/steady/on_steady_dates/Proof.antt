@@ -16,7 +16,13 @@ loop-holds : tie.Need-loop-holds Inv-loop μ-loop
 loop-holds c =
     let at-steady-day = c .before in
     let at-start = at-steady-day .before .before .before .before .before in
-    dates-start _ _ _ _ _ _ _ _ _ (omega (arith, dates-forward (at-start .args .offset) (at-start .args .from .0) (at-start .args .to .0) (at-start .pre .4), c .steady-day2 .ensures, at-steady-day .steady-day .ensures))
+    dates-start _ _ _ _ _ _ _ _ _ (omega (
+      arith,
+      dates-forward (at-start .args .offset) (at-start .args .from .0) (at-start .args .to .0)
+          (at-start .pre .4),
+      c .steady-day2 .ensures,
+      at-steady-day .steady-day .ensures,
+    ))
 
 steady-midnight-requires : tie.Need-steady-midnight-requires Inv-loop μ-loop
 steady-midnight-requires c κs =
@@ -24,7 +30,9 @@ steady-midnight-requires c κs =
     let at-steady-day2 = at-loop .before in
     let at-steady-day = at-steady-day2 .before in
     let at-start = at-steady-day .before .before .before .before .before in
-    let here = date-in (at-start .args .offset) (at-start .args .from .0) (at-start .args .to .0) (at-loop .loop .date) (at-start .pre .2) (at-start .pre .3) (omega (arith, at-loop .loop .inv .low, at-steady-day .steady-day .ensures)) (omega (arith, c .if1 .taken, at-steady-day2 .steady-day2 .ensures)) in
+    let here = date-in (at-start .args .offset) (at-start .args .from .0) (at-start .args .to .0) (at-loop .loop .date) (at-start .pre .2)
+    (at-start .pre .3) (omega (arith, at-loop .loop .inv .low, at-steady-day .steady-day .ensures))
+    (omega (arith, c .if1 .taken, at-steady-day2 .steady-day2 .ensures)) in
     here .0
 
 on-steady-date-requires : tie.Need-on-steady-date-requires Inv-loop μ-loop
@@ -46,7 +54,9 @@ add-date c =
     let at-steady-day2 = at-loop .before in
     let at-steady-day = at-steady-day2 .before in
     let at-start = at-steady-day .before .before .before .before .before in
-    let here = date-in (at-start .args .offset) (at-start .args .from .0) (at-start .args .to .0) (at-loop .loop .date) (at-start .pre .2) (at-start .pre .3) (omega (arith, at-loop .loop .inv .low, at-steady-day .steady-day .ensures)) (omega (arith, c .before .before .before .before .before .before .before .before .if1 .taken, at-steady-day2 .steady-day2 .ensures)) in
+    let here = date-in (at-start .args .offset) (at-start .args .from .0) (at-start .args .to .0) (at-loop .loop .date) (at-start .pre .2)
+    (at-start .pre .3) (omega (arith, at-loop .loop .inv .low, at-steady-day .steady-day .ensures))
+    (omega (arith, c .before .before .before .before .before .before .before .before .if1 .taken, at-steady-day2 .steady-day2 .ensures)) in
     omega (arith, here .0 .2)
 
 loop-less : tie.Need-loop-less Inv-loop μ-loop
@@ -58,7 +68,8 @@ loop-again c =
     let at-steady-midnight = at-on-steady-date .before .before .before in
     let at-if1 = at-steady-midnight .before in
     let at-loop = at-if1 .before .before in
-    date-one _ _ _ _ _ _ _ _ (at-loop .loop .inv) (at-if1 .if1 .taken) (at-steady-midnight .steady-midnight .ensures) (at-on-steady-date .on-steady-date .ensures .0) (at-on-steady-date .on-steady-date .ensures .1)
+    date-one _ _ _ _ _ _ _ _ (at-loop .loop .inv) (at-if1 .if1 .taken) (at-steady-midnight .steady-midnight .ensures)
+    (at-on-steady-date .on-steady-date .ensures .0) (at-on-steady-date .on-steady-date .ensures .1)
 
 returns : tie.Need-returns Inv-loop μ-loop
 returns c =
@@ -66,7 +77,14 @@ returns c =
     let at-steady-day2 = at-loop .before in
     let at-steady-day = at-steady-day2 .before in
     let at-start = at-steady-day .before .before .before .before .before in
-    dates-end _ _ _ _ _ _ _ (at-loop .loop .inv) (c .if1 .left) (omega (arith, dates-forward (at-start .args .offset) (at-start .args .from .0) (at-start .args .to .0) (at-start .pre .4), at-steady-day2 .steady-day2 .ensures, at-steady-day .steady-day .ensures)) (at-steady-day .steady-day .ensures) (at-steady-day2 .steady-day2 .ensures)
+    dates-end _ _ _ _ _ _ _ (at-loop .loop .inv) (c .if1 .left) (omega (
+      arith,
+      dates-forward (at-start .args .offset) (at-start .args .from .0)
+          (at-start .args .to .0) (at-start .pre .4),
+      at-steady-day2 .steady-day2 .ensures,
+      at-steady-day .steady-day .ensures,
+    ))
+    (at-steady-day .steady-day .ensures) (at-steady-day2 .steady-day2 .ensures)
 
 pub on-steady-dates-spec : {M : Type 1} → statement M
 on-steady-dates-spec =

@@ -43,8 +43,11 @@ same-length-2 c = c .before .loop .inv .long .1
 returns : tie.Need-returns Inv-loop μ-loop
 returns c =
     let at-loop = c .before in
-    let n = at-loop .before .event-times .ensures in
-    (keep-end (no-times _ _ _ _) (at-loop .loop .inv) (omega (arith, n .0, c .loop-test .left)), omega (arith, n .0, n .1, at-loop .loop .inv .inside, at-loop .loop .inv .few))
+    let n = at-loop .before .event-times .ensures in (
+      keep-end (no-times _ _ _ _) (at-loop .loop .inv) (omega (arith, n .0, c .loop-test .left)),
+      omega
+          (arith, n .0, n .1, at-loop .loop .inv .inside, at-loop .loop .inv .few),
+    )
 
 pub on-steady-times-spec : {M : Type 1} → statement M
 on-steady-times-spec =

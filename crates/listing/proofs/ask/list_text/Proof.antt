@@ -33,7 +33,8 @@ returns-2 c =
     let at-is-query = at-if2 .before in
     let at-if1 = at-is-query .before in
     let at-start = at-if1 .before .before in
-    told (no-query ((at-start .args .input .now)) (omega (arith, (at-if1 .if1 .left))) (sym (at-is-query .is-query .ensures) ∙ not-true _ (at-if2 .if2 .taken))) (at-put-head2 .put-head2 .ensures) (omega arith)
+    told (no-query (at-start .args .input .now) (omega (arith, (at-if1 .if1 .left)))
+    (sym (at-is-query .is-query .ensures) ∙ not-true _ (at-if2 .if2 .taken))) (at-put-head2 .put-head2 .ensures) (omega arith)
 
 signed8-requires : tie.Need-signed8-requires
 signed8-requires c κs =
@@ -93,9 +94,12 @@ returns-3 c =
     let at-is-query = at-if2 .before in
     let at-if1 = at-is-query .before in
     let at-start = at-if1 .before .before in
+    let start-input = at-start .args .input .now in
     let e = edge _ _ (at-unplace .unplace .result) (at-unplace .unplace .ensures) (at-signed8 .signed8 .ensures) in
     let f = edge _ _ (at-unplace2 .unplace2 .result) (at-unplace2 .unplace2 .ensures) (at-signed82 .signed82 .ensures) in
-    told (is-query ((at-start .args .input .now)) (omega (arith, (at-if1 .if1 .left))) (sym (at-is-query .is-query .ensures) ∙ not-false _ (at-if2 .if2 .left)) ∙ same-window (book ((at-start .args .input .now))) _ (start ((at-start .args .input .now))) _ (end ((at-start .args .input .now))) _ (tail-book ((at-start .args .input .now))) e f) (at-put-window .put-window .ensures) (long (c .before))
+    told (is-query start-input (omega (arith, (at-if1 .if1 .left))) (sym (at-is-query .is-query .ensures) ∙ not-false _ (at-if2 .if2 .left)) ∙
+    same-window (book start-input) _ (start start-input) _ (end start-input) _ (tail-book start-input) e f) (at-put-window .put-window .ensures)
+    (long (c .before))
 
 pub list-text-spec : {M : Type 1} → statement M
 list-text-spec =

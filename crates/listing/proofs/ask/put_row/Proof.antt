@@ -18,15 +18,21 @@ put-head-requires c κs =
     let at-count = c in
     let at-shared-slice-known = at-count .before .before .before in
     let at-start = at-shared-slice-known .before in
-    rw ((at-count .count .ensures)) (front (allLines (segments ((at-start .args .answer .now)))) (row-fits ((at-start .args .answer .now)) (λ k. omega (arith, (at-shared-slice-known .shared-slice-known .given) k)) ((at-start .args .out .now)) ((at-start .pre) .0) ((at-start .pre) .1) ((at-start .pre) .2)))
+    rw (at-count .count .ensures) (front (allLines (segments (at-start .args .answer .now))) (row-fits (at-start .args .answer .now)
+    (λ k. omega (arith, (at-shared-slice-known .shared-slice-known .given) k)) (at-start .args .out .now) (at-start .pre .0) (at-start .pre .1)
+    (at-start .pre .2)))
 
 put-all-requires : tie.Need-put-all-requires
 put-all-requires c κs =
     let at-put-head = c .before .before .before in
     let at-count = at-put-head .before in
     let at-shared-slice-known = at-count .before .before .before in
-    let at-start = at-shared-slice-known .before in
-    (here-row ((at-start .args .answer .now)) ((at-start .pre) .0), rest (row-fits ((at-start .args .answer .now)) (λ k. omega (arith, (at-shared-slice-known .shared-slice-known .given) k)) ((at-start .args .out .now)) ((at-start .pre) .0) ((at-start .pre) .1) ((at-start .pre) .2)) (rw ((at-count .count .ensures)) at ((at-put-head .put-head .ensures))))
+    let at-start = at-shared-slice-known .before in (
+      here-row (at-start .args .answer .now) (at-start .pre .0),
+      rest (row-fits (at-start .args .answer .now)
+          (λ k. omega (arith, (at-shared-slice-known .shared-slice-known .given) k)) (at-start .args .out .now) (at-start .pre .0) (at-start .pre .1)
+          (at-start .pre .2)) (rw (at-count .count .ensures) at (at-put-head .put-head .ensures)),
+    )
 
 same-length : tie.Need-same-length
 same-length c = search needs
@@ -38,7 +44,9 @@ returns c =
     let at-count = at-put-head .before in
     let at-shared-slice-known = at-count .before .before .before in
     let at-start = at-shared-slice-known .before in
-    both (row-fits ((at-start .args .answer .now)) (λ k. omega (arith, (at-shared-slice-known .shared-slice-known .given) k)) ((at-start .args .out .now)) ((at-start .pre) .0) ((at-start .pre) .1) ((at-start .pre) .2)) (rw ((at-count .count .ensures)) at ((at-put-head .put-head .ensures))) (at-put-all .put-all .ensures)
+    both (row-fits (at-start .args .answer .now) (λ k. omega (arith, (at-shared-slice-known .shared-slice-known .given) k)) (at-start .args .out .now)
+    (at-start .pre .0) (at-start .pre .1) (at-start .pre .2)) (rw (at-count .count .ensures) at (at-put-head .put-head .ensures))
+    (at-put-all .put-all .ensures)
 
 pub put-row-spec : {M : Type 1} → statement M
 put-row-spec =

@@ -32,26 +32,52 @@ returns c =
     let at-if1 = at-put-head .before .before in
     let at-window-answer = at-if1 .before .before in
     let at-start = at-window-answer .before .before .before .before in
-    puts-text (refused-text ((at-start .args .book .now)) (at-start .args .start) (at-start .args .end) (lent-same (at-window-answer .window-answer .ensures) (ap₂ (windowNumber ((at-start .args .book .now))) (toZ-ofZ w64 (at-start .args .start) (at-start .fits .start)) (toZ-ofZ w64 (at-start .args .end) (at-start .fits .end))) (ap₂ (windowAnswer ((at-start .args .book .now))) (toZ-ofZ w64 (at-start .args .start) (at-start .fits .start)) (toZ-ofZ w64 (at-start .args .end) (at-start .fits .end)))) (length-replicate {A = ℕ} 65536 0) (at-if1 .if1 .taken)) (at-put-head .put-head .ensures)
+    let args = at-start .args in
+    let start-is = toZ-ofZ w64 (args .start) (at-start .fits .start) in
+    let end-is = toZ-ofZ w64 (args .end) (at-start .fits .end) in
+    puts-text (refused-text (args .book .now) (args .start) (args .end) (lent-same (at-window-answer .window-answer .ensures)
+    (ap₂ (windowNumber (args .book .now)) start-is end-is) (ap₂ (windowAnswer (args .book .now)) start-is end-is)) (length-replicate {A = ℕ} 65536 0)
+    (at-if1 .if1 .taken)) (at-put-head .put-head .ensures)
 
 array-share-prefix-room : tie.Need-array-share-prefix-room
 array-share-prefix-room c =
     let at-window-answer = c .before .before in
     let at-start = at-window-answer .before .before .before .before in
-    (answered ((at-start .args .book .now)) (at-start .args .start) (at-start .args .end) (lent-same (at-window-answer .window-answer .ensures) (ap₂ (windowNumber ((at-start .args .book .now))) (toZ-ofZ w64 (at-start .args .start) (at-start .fits .start)) (toZ-ofZ w64 (at-start .args .end) (at-start .fits .end))) (ap₂ (windowAnswer ((at-start .args .book .now))) (toZ-ofZ w64 (at-start .args .start) (at-start .fits .start)) (toZ-ofZ w64 (at-start .args .end) (at-start .fits .end)))) (length-replicate {A = ℕ} 65536 0) (omega arith)) .inside
+    let args = at-start .args in
+    let start-is = toZ-ofZ w64 (args .start) (at-start .fits .start) in
+    let end-is = toZ-ofZ w64 (args .end) (at-start .fits .end) in
+    let reply = answered (args .book .now) (args .start) (args .end) (lent-same (at-window-answer .window-answer .ensures)
+    (ap₂ (windowNumber (args .book .now)) start-is end-is) (ap₂ (windowAnswer (args .book .now)) start-is end-is)) (length-replicate {A = ℕ} 65536 0)
+    (omega arith) in
+    reply .inside
 
 slice-aggregate-put-row : tie.Need-slice-aggregate-put-row
 slice-aggregate-put-row c =
     let at-window-answer = c .before .before .before in
     let at-start = at-window-answer .before .before .before .before in
-    sym ((answered ((at-start .args .book .now)) (at-start .args .start) (at-start .args .end) (lent-same (at-window-answer .window-answer .ensures) (ap₂ (windowNumber ((at-start .args .book .now))) (toZ-ofZ w64 (at-start .args .start) (at-start .fits .start)) (toZ-ofZ w64 (at-start .args .end) (at-start .fits .end))) (ap₂ (windowAnswer ((at-start .args .book .now))) (toZ-ofZ w64 (at-start .args .start) (at-start .fits .start)) (toZ-ofZ w64 (at-start .args .end) (at-start .fits .end)))) (length-replicate {A = ℕ} 65536 0) (omega arith)) .long)
+    let args = at-start .args in
+    let start-is = toZ-ofZ w64 (args .start) (at-start .fits .start) in
+    let end-is = toZ-ofZ w64 (args .end) (at-start .fits .end) in
+    let reply = answered (args .book .now) (args .start) (args .end) (lent-same (at-window-answer .window-answer .ensures)
+    (ap₂ (windowNumber (args .book .now)) start-is end-is) (ap₂ (windowAnswer (args .book .now)) start-is end-is)) (length-replicate {A = ℕ} 65536 0)
+    (omega arith) in
+    sym (reply .long)
 
 put-row-requires : tie.Need-put-row-requires
 put-row-requires c κs =
     let at-window-answer = c .before .before .before .before in
     let at-shared-slice-known = at-window-answer .before .before .before in
     let at-start = at-shared-slice-known .before in
-    ((answered ((at-start .args .book .now)) (at-start .args .start) (at-start .args .end) (lent-same (at-window-answer .window-answer .ensures) (ap₂ (windowNumber ((at-start .args .book .now))) (toZ-ofZ w64 (at-start .args .start) (at-start .fits .start)) (toZ-ofZ w64 (at-start .args .end) (at-start .fits .end))) (ap₂ (windowAnswer ((at-start .args .book .now))) (toZ-ofZ w64 (at-start .args .start) (at-start .fits .start)) (toZ-ofZ w64 (at-start .args .end) (at-start .fits .end)))) (length-replicate {A = ℕ} 65536 0) (omega arith)) .good (λ k. omega (arith, (at-shared-slice-known .shared-slice-known .given) k)), omega (arith, (answered ((at-start .args .book .now)) (at-start .args .start) (at-start .args .end) (lent-same (at-window-answer .window-answer .ensures) (ap₂ (windowNumber ((at-start .args .book .now))) (toZ-ofZ w64 (at-start .args .start) (at-start .fits .start)) (toZ-ofZ w64 (at-start .args .end) (at-start .fits .end))) (ap₂ (windowAnswer ((at-start .args .book .now))) (toZ-ofZ w64 (at-start .args .start) (at-start .fits .start)) (toZ-ofZ w64 (at-start .args .end) (at-start .fits .end)))) (length-replicate {A = ℕ} 65536 0) (omega arith)) .long, (answered ((at-start .args .book .now)) (at-start .args .start) (at-start .args .end) (lent-same (at-window-answer .window-answer .ensures) (ap₂ (windowNumber ((at-start .args .book .now))) (toZ-ofZ w64 (at-start .args .start) (at-start .fits .start)) (toZ-ofZ w64 (at-start .args .end) (at-start .fits .end))) (ap₂ (windowAnswer ((at-start .args .book .now))) (toZ-ofZ w64 (at-start .args .start) (at-start .fits .start)) (toZ-ofZ w64 (at-start .args .end) (at-start .fits .end)))) (length-replicate {A = ℕ} 65536 0) (omega arith)) .short), (at-start .pre))
+    let args = at-start .args in
+    let start-is = toZ-ofZ w64 (args .start) (at-start .fits .start) in
+    let end-is = toZ-ofZ w64 (args .end) (at-start .fits .end) in
+    let reply = answered (args .book .now) (args .start) (args .end) (lent-same (at-window-answer .window-answer .ensures)
+    (ap₂ (windowNumber (args .book .now)) start-is end-is) (ap₂ (windowAnswer (args .book .now)) start-is end-is)) (length-replicate {A = ℕ} 65536 0)
+    (omega arith) in (
+      reply .good (λ k. omega (arith, (at-shared-slice-known .shared-slice-known .given) k)),
+      omega (arith, reply .long, reply .short),
+      (at-start .pre),
+    )
 
 same-length-2 : tie.Need-same-length-2
 same-length-2 c = search needs
@@ -61,7 +87,13 @@ returns-2 c =
     let at-put-row = c .before .before in
     let at-window-answer = at-put-row .before .before .before .before .before in
     let at-start = at-window-answer .before .before .before .before in
-    puts-text ((answered ((at-start .args .book .now)) (at-start .args .start) (at-start .args .end) (lent-same (at-window-answer .window-answer .ensures) (ap₂ (windowNumber ((at-start .args .book .now))) (toZ-ofZ w64 (at-start .args .start) (at-start .fits .start)) (toZ-ofZ w64 (at-start .args .end) (at-start .fits .end))) (ap₂ (windowAnswer ((at-start .args .book .now))) (toZ-ofZ w64 (at-start .args .start) (at-start .fits .start)) (toZ-ofZ w64 (at-start .args .end) (at-start .fits .end)))) (length-replicate {A = ℕ} 65536 0) (omega arith)) .text) (at-put-row .put-row .ensures)
+    let args = at-start .args in
+    let start-is = toZ-ofZ w64 (args .start) (at-start .fits .start) in
+    let end-is = toZ-ofZ w64 (args .end) (at-start .fits .end) in
+    let reply = answered (args .book .now) (args .start) (args .end) (lent-same (at-window-answer .window-answer .ensures)
+    (ap₂ (windowNumber (args .book .now)) start-is end-is) (ap₂ (windowAnswer (args .book .now)) start-is end-is)) (length-replicate {A = ℕ} 65536 0)
+    (omega arith) in
+    puts-text (reply .text) (at-put-row .put-row .ensures)
 
 pub put-window-spec : {M : Type 1} → statement M
 put-window-spec =

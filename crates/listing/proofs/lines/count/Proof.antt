@@ -31,7 +31,8 @@ add-seen c =
     let at-read-at = at-g .before .before in
     let at-row = at-read-at .before in
     let at-start = at-row .before .before in
-    omega (arith, (at-row .row .inv) .few, (stands ((at-start .args .answer .now)) (at-row .row .at) (at-read-at .read-at .ensures) ((at-g .g .given) .1)) .after, (stands ((at-start .args .answer .now)) (at-row .row .at) (at-read-at .read-at .ensures) ((at-g .g .given) .1)) .inside)
+    let stood = stands (at-start .args .answer .now) (at-row .row .at) (at-read-at .read-at .ensures) (at-g .g .given .1) in
+    omega (arith, (at-row .row .inv .few), stood .after, stood .inside)
 
 row-less : tie.Need-row-less Inv-row μ-row
 row-less c =
@@ -39,7 +40,8 @@ row-less c =
     let at-read-at = at-g .before .before in
     let at-row = at-read-at .before in
     let at-start = at-row .before .before in
-    omega (arith, (stands ((at-start .args .answer .now)) (at-row .row .at) (at-read-at .read-at .ensures) ((at-g .g .given) .1)) .after, (stands ((at-start .args .answer .now)) (at-row .row .at) (at-read-at .read-at .ensures) ((at-g .g .given) .1)) .inside)
+    let stood = stands (at-start .args .answer .now) (at-row .row .at) (at-read-at .read-at .ensures) (at-g .g .given .1) in
+    omega (arith, stood .after, stood .inside)
 
 row-again : tie.Need-row-again Inv-row μ-row
 row-again c =
@@ -69,7 +71,8 @@ returns-2 c =
     let at-read-at = at-enum-told2 .before .before in
     let at-row = at-read-at .before in
     let at-start = at-row .before .before in
-    count-over (at-row .row .inv) (before-mark ((at-start .args .answer .now)) (at-row .row .at) (at-read-at .read-at .ensures) ((at-enum-told2 .enum-told2 .given) .1))
+    count-over (at-row .row .inv)
+    (before-mark (at-start .args .answer .now) (at-row .row .at) (at-read-at .read-at .ensures) (at-enum-told2 .enum-told2 .given .1))
 
 pub count-spec : {M : Type 1} → statement M
 count-spec =

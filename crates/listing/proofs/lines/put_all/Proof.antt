@@ -34,7 +34,8 @@ put-segment-requires c κs =
     let at-read-at = at-g .before .before in
     let at-row = at-read-at .before in
     let at-start = at-row .before .before .before in
-    ((stands ((at-start .args .answer .now)) (at-row .row .from) (at-read-at .read-at .ensures) ((at-g .g .given) .1)), fits-next (allLines (segmentsAt ((at-start .args .answer .now)) ((at-g .g .given) .0 .0 .behind))) (list-one ((at-row .row .inv) .1) (stands ((at-start .args .answer .now)) (at-row .row .from) (at-read-at .read-at .ensures) ((at-g .g .given) .1))))
+    let stood = stands (at-start .args .answer .now) (at-row .row .from) (at-read-at .read-at .ensures) (at-g .g .given .1) in
+    (stood, fits-next (allLines (segmentsAt (at-start .args .answer .now) (at-g .g .given .0 .0 .behind))) (list-one (at-row .row .inv .1) stood))
 
 row-less : tie.Need-row-less Inv-row μ-row
 row-less c =
@@ -42,7 +43,8 @@ row-less c =
     let at-read-at = at-g .before .before in
     let at-row = at-read-at .before in
     let at-start = at-row .before .before .before in
-    omega (arith, (stands ((at-start .args .answer .now)) (at-row .row .from) (at-read-at .read-at .ensures) ((at-g .g .given) .1)) .after, (stands ((at-start .args .answer .now)) (at-row .row .from) (at-read-at .read-at .ensures) ((at-g .g .given) .1)) .inside)
+    let stood = stands (at-start .args .answer .now) (at-row .row .from) (at-read-at .read-at .ensures) (at-g .g .given .1) in
+    omega (arith, stood .after, stood .inside)
 
 row-again : tie.Need-row-again Inv-row μ-row
 row-again c =
@@ -51,7 +53,8 @@ row-again c =
     let at-read-at = at-g .before .before in
     let at-row = at-read-at .before in
     let at-start = at-row .before .before .before in
-    ((stands ((at-start .args .answer .now)) (at-row .row .from) (at-read-at .read-at .ensures) ((at-g .g .given) .1)) .on, goes-on (list-one ((at-row .row .inv) .1) (stands ((at-start .args .answer .now)) (at-row .row .from) (at-read-at .read-at .ensures) ((at-g .g .given) .1))) (at-put-segment .put-segment .ensures))
+    let stood = stands (at-start .args .answer .now) (at-row .row .from) (at-read-at .read-at .ensures) (at-g .g .given .1) in
+    (stood .on, goes-on (list-one (at-row .row .inv .1) stood) (at-put-segment .put-segment .ensures))
 
 enum-told : tie.Need-enum-told Inv-row μ-row
 enum-told c = search needs
@@ -70,7 +73,8 @@ returns c =
     let at-read-at = at-enum-told .before .before in
     let at-row = at-read-at .before in
     let at-start = at-row .before .before .before in
-    list-over ((at-start .args .answer .now)) (at-row .row .from) ((at-row .row .inv) .1) (over ((at-start .args .answer .now)) (at-row .row .from) (at-read-at .read-at .ensures) ((at-enum-told .enum-told .given) .1))
+    list-over (at-start .args .answer .now) (at-row .row .from) (at-row .row .inv .1)
+    (over (at-start .args .answer .now) (at-row .row .from) (at-read-at .read-at .ensures) (at-enum-told .enum-told .given .1))
 
 same-length-2 : tie.Need-same-length-2 Inv-row μ-row
 same-length-2 c =
@@ -83,7 +87,8 @@ returns-2 c =
     let at-read-at = at-enum-told2 .before .before in
     let at-row = at-read-at .before in
     let at-start = at-row .before .before .before in
-    list-over ((at-start .args .answer .now)) (at-row .row .from) ((at-row .row .inv) .1) (before-mark ((at-start .args .answer .now)) (at-row .row .from) (at-read-at .read-at .ensures) ((at-enum-told2 .enum-told2 .given) .1))
+    list-over (at-start .args .answer .now) (at-row .row .from) (at-row .row .inv .1)
+    (before-mark (at-start .args .answer .now) (at-row .row .from) (at-read-at .read-at .ensures) (at-enum-told2 .enum-told2 .given .1))
 
 pub put-all-spec : {M : Type 1} → statement M
 put-all-spec =

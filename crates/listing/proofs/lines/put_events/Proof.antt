@@ -31,7 +31,10 @@ put-event-requires c κs =
     let at-loop-test = at-event-at .before in
     let at-loop = at-loop-test .before in
     let at-start = at-loop .before .before .before in
-    rw (same-event ((at-start .args .answer .now)) (at-loop .loop .from) _ _ ((at-event-at .event-at .ensures) .0) ((at-event-at .event-at .ensures) .1)) (fits-next (eventLines (eventsFrom ((at-start .args .answer .now)) ((at-loop .loop .from) + 35) ((at-loop .loop .left) - 1))) (event-one ((at-start .args .answer .now)) (at-loop .loop .from) (at-loop .loop .left) (at-loop-test .loop-test .taken) ((at-loop .loop .inv) .1)))
+    let start-answer = at-start .args .answer .now in
+    rw (same-event start-answer (at-loop .loop .from) _ _ (at-event-at .event-at .ensures .0) (at-event-at .event-at .ensures .1)) (fits-next
+    (eventLines (eventsFrom start-answer ((at-loop .loop .from) + 35) ((at-loop .loop .left) - 1)))
+    (event-one start-answer (at-loop .loop .from) (at-loop .loop .left) (at-loop-test .loop-test .taken) (at-loop .loop .inv .1)))
 
 add-from : tie.Need-add-from Inv-loop μ-loop
 add-from c =
@@ -55,8 +58,13 @@ loop-again c =
     let at-event-at = at-put-event .before .before .before in
     let at-loop-test = at-event-at .before in
     let at-loop = at-loop-test .before in
-    let at-start = at-loop .before .before .before in
-    (omega (arith, (at-loop-test .loop-test .taken), (at-loop .loop .inv) .0), goes-on (event-one ((at-start .args .answer .now)) (at-loop .loop .from) (at-loop .loop .left) (at-loop-test .loop-test .taken) ((at-loop .loop .inv) .1)) (event-put ((at-start .args .answer .now)) (at-loop .loop .from) _ _ ((at-event-at .event-at .ensures) .0) ((at-event-at .event-at .ensures) .1) (at-put-event .put-event .ensures)))
+    let at-start = at-loop .before .before .before in (
+      omega (arith, (at-loop-test .loop-test .taken), (at-loop .loop .inv .0)),
+      goes-on
+          (event-one (at-start .args .answer .now) (at-loop .loop .from) (at-loop .loop .left) (at-loop-test .loop-test .taken) (at-loop .loop .inv .1))
+          (event-put (at-start .args .answer .now) (at-loop .loop .from) _ _ (at-event-at .event-at .ensures .0) (at-event-at .event-at .ensures .1)
+          (at-put-event .put-event .ensures)),
+    )
 
 same-length : tie.Need-same-length Inv-loop μ-loop
 same-length c =

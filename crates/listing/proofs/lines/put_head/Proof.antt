@@ -50,7 +50,9 @@ returns c =
     let at-put-number = at-put-number2 .before .before .before .before in
     let at-put-word = at-put-number .before .before .before .before in
     let at-start = at-put-word .before .before .before .before in
-    both (at-start .pre) (at-put-word .put-word .ensures) (both (rest (at-start .pre) (at-put-word .put-word .ensures)) (at-put-number .put-number .ensures) (both (rest (rest (at-start .pre) (at-put-word .put-word .ensures)) (at-put-number .put-number .ensures)) (at-put-number2 .put-number2 .ensures) (at-put-byte .put-byte .ensures)))
+    let remaining = rest (at-start .pre) (at-put-word .put-word .ensures) in
+    both (at-start .pre) (at-put-word .put-word .ensures) (both remaining (at-put-number .put-number .ensures)
+    (both (rest remaining (at-put-number .put-number .ensures)) (at-put-number2 .put-number2 .ensures) (at-put-byte .put-byte .ensures)))
 
 pub put-head-spec : {M : Type 1} → statement M
 put-head-spec =

@@ -12,14 +12,16 @@ put-instant-requires : tie.Need-put-instant-requires
 put-instant-requires c κs =
     let at-put-byte = c .before .before .before in
     let at-start = at-put-byte .before .before .before in
-    front (fields (instant ((at-start .args .to) .0) ∷ decimal (at-start .args .p) ∷ decimal (at-start .args .evidence) ∷ [])) (rest (at-start .pre) (at-put-byte .put-byte .ensures))
+    front (fields (instant (at-start .args .to .0) ∷ decimal (at-start .args .p) ∷ decimal (at-start .args .evidence) ∷ []))
+    (rest (at-start .pre) (at-put-byte .put-byte .ensures))
 
 put-instant-requires-2 : tie.Need-put-instant-requires-2
 put-instant-requires-2 c κs =
     let at-put-instant = c .before .before .before in
     let at-put-byte = at-put-instant .before .before .before .before in
     let at-start = at-put-byte .before .before .before in
-    front (fields (decimal (at-start .args .p) ∷ decimal (at-start .args .evidence) ∷ [])) (rest (rest (at-start .pre) (at-put-byte .put-byte .ensures)) (at-put-instant .put-instant .ensures))
+    front (fields (decimal (at-start .args .p) ∷ decimal (at-start .args .evidence) ∷ []))
+    (rest (rest (at-start .pre) (at-put-byte .put-byte .ensures)) (at-put-instant .put-instant .ensures))
 
 put-number-requires : tie.Need-put-number-requires
 put-number-requires c κs =
@@ -27,7 +29,8 @@ put-number-requires c κs =
     let at-put-instant = at-put-instant2 .before .before .before .before in
     let at-put-byte = at-put-instant .before .before .before .before in
     let at-start = at-put-byte .before .before .before in
-    front (fields (decimal (at-start .args .evidence) ∷ [])) (rest (rest (rest (at-start .pre) (at-put-byte .put-byte .ensures)) (at-put-instant .put-instant .ensures)) (at-put-instant2 .put-instant2 .ensures))
+    front (fields (decimal (at-start .args .evidence) ∷ [])) (rest
+    (rest (rest (at-start .pre) (at-put-byte .put-byte .ensures)) (at-put-instant .put-instant .ensures)) (at-put-instant2 .put-instant2 .ensures))
 
 put-number-requires-2 : tie.Need-put-number-requires-2
 put-number-requires-2 c κs =
@@ -36,7 +39,8 @@ put-number-requires-2 c κs =
     let at-put-instant = at-put-instant2 .before .before .before .before in
     let at-put-byte = at-put-instant .before .before .before .before in
     let at-start = at-put-byte .before .before .before in
-    front (fields []) (rest (rest (rest (rest (at-start .pre) (at-put-byte .put-byte .ensures)) (at-put-instant .put-instant .ensures)) (at-put-instant2 .put-instant2 .ensures)) (at-put-number .put-number .ensures))
+    front (fields []) (rest (rest (rest (rest (at-start .pre) (at-put-byte .put-byte .ensures)) (at-put-instant .put-instant .ensures))
+    (at-put-instant2 .put-instant2 .ensures)) (at-put-number .put-number .ensures))
 
 put-byte-requires-2 : tie.Need-put-byte-requires-2
 put-byte-requires-2 c κs =
@@ -46,7 +50,8 @@ put-byte-requires-2 c κs =
     let at-put-instant = at-put-instant2 .before .before .before .before in
     let at-put-byte = at-put-instant .before .before .before .before in
     let at-start = at-put-byte .before .before .before in
-    (rest (rest (rest (rest (rest (at-start .pre) (at-put-byte .put-byte .ensures)) (at-put-instant .put-instant .ensures)) (at-put-instant2 .put-instant2 .ensures)) (at-put-number .put-number .ensures)) (at-put-number2 .put-number2 .ensures))
+    (rest (rest (rest (rest (rest (at-start .pre) (at-put-byte .put-byte .ensures)) (at-put-instant .put-instant .ensures))
+    (at-put-instant2 .put-instant2 .ensures)) (at-put-number .put-number .ensures)) (at-put-number2 .put-number2 .ensures))
 
 same-length : tie.Need-same-length
 same-length c = search needs
@@ -60,7 +65,12 @@ returns c =
     let at-put-instant = at-put-instant2 .before .before .before .before in
     let at-put-byte = at-put-instant .before .before .before .before in
     let at-start = at-put-byte .before .before .before in
-    both (at-start .pre) (at-put-byte .put-byte .ensures) (both (rest (at-start .pre) (at-put-byte .put-byte .ensures)) (at-put-instant .put-instant .ensures) (both (rest (rest (at-start .pre) (at-put-byte .put-byte .ensures)) (at-put-instant .put-instant .ensures)) (at-put-instant2 .put-instant2 .ensures) (both (rest (rest (rest (at-start .pre) (at-put-byte .put-byte .ensures)) (at-put-instant .put-instant .ensures)) (at-put-instant2 .put-instant2 .ensures)) (at-put-number .put-number .ensures) (both (rest (rest (rest (rest (at-start .pre) (at-put-byte .put-byte .ensures)) (at-put-instant .put-instant .ensures)) (at-put-instant2 .put-instant2 .ensures)) (at-put-number .put-number .ensures)) (at-put-number2 .put-number2 .ensures) (at-put-byte2 .put-byte2 .ensures)))))
+    let remaining3 = rest (at-start .pre) (at-put-byte .put-byte .ensures) in
+    let remaining2 = rest remaining3 (at-put-instant .put-instant .ensures) in
+    let remaining = rest remaining2 (at-put-instant2 .put-instant2 .ensures) in
+    both (at-start .pre) (at-put-byte .put-byte .ensures) (both remaining3 (at-put-instant .put-instant .ensures) (both remaining2
+    (at-put-instant2 .put-instant2 .ensures) (both remaining (at-put-number .put-number .ensures)
+    (both (rest remaining (at-put-number .put-number .ensures)) (at-put-number2 .put-number2 .ensures) (at-put-byte2 .put-byte2 .ensures)))))
 
 pub put-phase-spec : {M : Type 1} → statement M
 put-phase-spec =

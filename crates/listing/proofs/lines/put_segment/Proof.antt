@@ -15,7 +15,9 @@ put-phase-requires : tie.Need-put-phase-requires
 put-phase-requires c κs =
     let at-shows = c .before .before in
     let at-start = at-shows .before .before .before .before .before .before in
-    front (eventLines (eventsFrom ((at-start .args .answer .now)) ((at-start .args .from) + 105) _)) (rw (shows-phase ((at-start .args .answer .now)) (at-start .args .from) (at-start .args .g) _ _ _ ((at-shows .shows .given) .1)) at ((at-start .pre) .1))
+    let args = at-start .args in
+    front (eventLines (eventsFrom (args .answer .now) ((args .from) + 105) _))
+    (rw (shows-phase (args .answer .now) (args .from) (args .g) _ _ _ (at-shows .shows .given .1)) at (at-start .pre .1))
 
 add-put-events : tie.Need-add-put-events
 add-put-events c =
@@ -27,8 +29,12 @@ put-events-requires : tie.Need-put-events-requires
 put-events-requires c κs =
     let at-put-phase = c .before .before .before in
     let at-shows = at-put-phase .before .before .before in
-    let at-start = at-shows .before .before .before .before .before .before in
-    (phase-events ((at-start .pre) .0) ((at-shows .shows .given) .1), rest (rw (shows-phase ((at-start .args .answer .now)) (at-start .args .from) (at-start .args .g) _ _ _ ((at-shows .shows .given) .1)) at ((at-start .pre) .1)) (at-put-phase .put-phase .ensures))
+    let at-start = at-shows .before .before .before .before .before .before in (
+      phase-events (at-start .pre .0) (at-shows .shows .given .1),
+      rest (rw
+          (shows-phase (at-start .args .answer .now) (at-start .args .from) (at-start .args .g) _ _ _ (at-shows .shows .given .1)) at (at-start .pre .1))
+          (at-put-phase .put-phase .ensures),
+    )
 
 enum-told : tie.Need-enum-told
 enum-told c = search needs
@@ -48,7 +54,8 @@ returns c =
     let at-put-phase = at-put-events .before .before .before .before in
     let at-shows = at-put-phase .before .before .before in
     let at-start = at-shows .before .before .before .before .before .before in
-    rw (shows-phase ((at-start .args .answer .now)) (at-start .args .from) (at-start .args .g) _ _ _ ((at-shows .shows .given) .1)) (both (rw (shows-phase ((at-start .args .answer .now)) (at-start .args .from) (at-start .args .g) _ _ _ ((at-shows .shows .given) .1)) at ((at-start .pre) .1)) (at-put-phase .put-phase .ensures) (at-put-events .put-events .ensures))
+    let shows = shows-phase (at-start .args .answer .now) (at-start .args .from) (at-start .args .g) _ _ _ (at-shows .shows .given .1) in
+    rw shows (both (rw shows at (at-start .pre .1)) (at-put-phase .put-phase .ensures) (at-put-events .put-events .ensures))
 
 same-length-2 : tie.Need-same-length-2
 same-length-2 c = search needs
@@ -58,7 +65,8 @@ returns-2 c =
     let at-put-unknown = c .before .before in
     let at-enum-told = at-put-unknown .before .before in
     let at-start = at-enum-told .before .before .before .before .before .before in
-    rw (shows-unknown ((at-start .args .answer .now)) (at-start .args .from) (at-start .args .g) ((at-enum-told .enum-told .given) .1)) (at-put-unknown .put-unknown .ensures)
+    rw (shows-unknown (at-start .args .answer .now) (at-start .args .from) (at-start .args .g) (at-enum-told .enum-told .given .1))
+    (at-put-unknown .put-unknown .ensures)
 
 pub put-segment-spec : {M : Type 1} → statement M
 put-segment-spec =

@@ -39,7 +39,9 @@ returns c =
     let at-put-instant = at-put-instant2 .before .before .before .before in
     let at-put-byte = at-put-instant .before .before .before .before in
     let at-start = at-put-byte .before .before .before in
-    both (at-start .pre) (at-put-byte .put-byte .ensures) (both (rest (at-start .pre) (at-put-byte .put-byte .ensures)) (at-put-instant .put-instant .ensures) (both (rest (rest (at-start .pre) (at-put-byte .put-byte .ensures)) (at-put-instant .put-instant .ensures)) (at-put-instant2 .put-instant2 .ensures) (at-put-byte2 .put-byte2 .ensures)))
+    let remaining = rest (at-start .pre) (at-put-byte .put-byte .ensures) in
+    both (at-start .pre) (at-put-byte .put-byte .ensures) (both remaining (at-put-instant .put-instant .ensures)
+    (both (rest remaining (at-put-instant .put-instant .ensures)) (at-put-instant2 .put-instant2 .ensures) (at-put-byte2 .put-byte2 .ensures)))
 
 pub put-unknown-spec : {M : Type 1} → statement M
 put-unknown-spec =

@@ -45,8 +45,11 @@ put-decimal-returns t c =
 put-decimal-put-decimal-requires : (t : ℕ) → places.Need-put-decimal-requires (put-digit.Asked, put-digit.Learnt, put-decimal-below t, put-decimal.Post) (put-decimal-at t) put-decimal.Post
 put-decimal-put-decimal-requires t c κs =
     let at-if1 = c .before in
-    let at-start = at-if1 .before .before in
-    (omega (arith, (at-start .pre) .0, (at-if1 .if1 .left)), front (digit ((at-start .args .n) % 10) ∷ []) (rw (decimal-more (at-start .args .n) (omega (arith, (at-if1 .if1 .left)))) at ((at-start .pre) .1)))
+    let at-start = at-if1 .before .before in (
+      omega (arith, (at-start .pre .0), (at-if1 .if1 .left)),
+      front (digit ((at-start .args .n) % 10) ∷ [])
+          (rw (decimal-more (at-start .args .n) (omega (arith, (at-if1 .if1 .left)))) at (at-start .pre .1)),
+    )
 
 put-decimal-put-digit-requires-2 : (t : ℕ) → places.Need-put-digit-requires-2 (put-digit.Asked, put-digit.Learnt, put-decimal-below t, put-decimal.Post) (put-decimal-at t) put-decimal.Post
 put-decimal-put-digit-requires-2 t c κs =

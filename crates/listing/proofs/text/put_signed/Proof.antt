@@ -34,7 +34,8 @@ returns c =
     let at-put-byte = at-put-decimal .before .before .before .before in
     let at-if1 = at-put-byte .before .before in
     let at-start = at-if1 .before .before in
-    rw (instant-negative (((at-start .args .p) .0)) (at-if1 .if1 .taken)) (both (rw (instant-negative (((at-start .args .p) .0)) (at-if1 .if1 .taken)) at (at-start .pre)) (at-put-byte .put-byte .ensures) (at-put-decimal .put-decimal .ensures))
+    let negative = instant-negative (at-start .args .p .0) (at-if1 .if1 .taken) in
+    rw negative (both (rw negative at (at-start .pre)) (at-put-byte .put-byte .ensures) (at-put-decimal .put-decimal .ensures))
 
 put-decimal-requires-2 : tie.Need-put-decimal-requires-2
 put-decimal-requires-2 c κs =

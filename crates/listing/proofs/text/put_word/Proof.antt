@@ -23,7 +23,8 @@ put-byte-requires : tie.Need-put-byte-requires Inv-loop μ-loop
 put-byte-requires c κs =
     let at-loop = c .before .before .before in
     let at-start = at-loop .before .before .before in
-    fits-next (drop ((at-loop .loop .i) + 1) ((at-start .args .word .now))) (one-more ((at-start .args .word .now)) (at-loop .loop .i) (omega arith) ((at-loop .loop .inv) .0))
+    fits-next (drop ((at-loop .loop .i) + 1) (at-start .args .word .now))
+    (one-more (at-start .args .word .now) (at-loop .loop .i) (omega arith) (at-loop .loop .inv .0))
 
 add-i : tie.Need-add-i Inv-loop μ-loop
 add-i c = omega arith

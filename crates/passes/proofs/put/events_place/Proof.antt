@@ -22,7 +22,8 @@ add-result c =
     let at-if1 = c .before .before .before .before in
     let at-slice-known = at-if1 .before in
     let at-start = at-slice-known .before in
-    let h = subst (λ (b : Bool). (at-start .args .place) + cond b 0 105 ≤ length ((at-start .args .out) .now)) (at-if1 .if1 .left) ((at-start .pre) .1) in omega (arith, h, (at-slice-known .slice-known .given) ((at-start .args .place) + 105))
+    let h = subst (λ (b : Bool). (at-start .args .place) + cond b 0 105 ≤ length (at-start .args .out .now)) (at-if1 .if1 .left) (at-start .pre .1) in
+    omega (arith, h, (at-slice-known .slice-known .given) ((at-start .args .place) + 105))
 
 same-length : tie.Need-same-length
 same-length c = search needs

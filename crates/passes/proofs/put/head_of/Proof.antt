@@ -32,7 +32,10 @@ returns c =
     let at-rule-uncertainty = at-point-phase .before .before .before in
     let at-if1 = at-rule-uncertainty .before .before in
     let at-start = at-if1 .before .before .before .before .before .before in
-    calm-head ((at-start .args .book) .now) (zoneOf (at-start .args .first) ((at-start .args .ats) .now) ((at-start .args .offsets) .now)) (at-start .args .q) (at-start .args .events) ((at-start .pre) .1) (at-if1 .if1 .taken) _ _ (at-rule-uncertainty .rule-uncertainty .ensures) ((at-point-phase .point-phase .ensures) .0) (at-phase-of .phase-of .ensures)
+    let args = at-start .args in
+    calm-head (args .book .now) (zoneOf (args .first) (args .ats .now) (args .offsets .now)) (args .q) (args .events) (at-start .pre .1)
+    (at-if1 .if1 .taken) _ _ (at-rule-uncertainty .rule-uncertainty .ensures) (at-point-phase .point-phase .ensures .0)
+    (at-phase-of .phase-of .ensures)
 
 segment-requires : tie.Need-segment-requires
 segment-requires c κs =
@@ -54,7 +57,9 @@ returns-2 c =
     let at-widest = at-phase-of2 .before in
     let at-segment = at-widest .before .before .before in
     let at-start = at-segment .before .before .before .before .before .before .before in
-    span-head ((at-start .args .book) .now) (zoneOf (at-start .args .first) ((at-start .args .ats) .now) ((at-start .args .offsets) .now)) (at-start .args .q) (at-start .args .events) ((at-segment .segment .ensures) .0) (at-widest .widest .ensures) (at-phase-of2 .phase-of2 .ensures)
+    let args = at-start .args in
+    span-head (args .book .now) (zoneOf (args .first) (args .ats .now) (args .offsets .now)) (args .q) (args .events)
+    (at-segment .segment .ensures .0) (at-widest .widest .ensures) (at-phase-of2 .phase-of2 .ensures)
 
 pub head-of-spec : {M : Type 1} → statement M
 head-of-spec =

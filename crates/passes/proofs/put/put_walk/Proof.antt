@@ -19,9 +19,9 @@ use Rattle.passes.proofs.put.put_walk.Tie as tie
 
 abbrev Inv-pieces : tie.InvT-pieces
 Inv-pieces book first ats offsets rules events hi out₀ at kept₀ edges₀ w₀ head₀ begun₀ stand₀ place₀ out kept edges w head begun stand place =
-    Stands book (z book first ats offsets rules events (hi .0)) w edges
-    × Writing out₀ at (bytesOf (joined phases (left book first ats offsets rules events (hi .0) w₀))) out (openOf begun stand head) place (left book first ats offsets rules events (hi .0) w)
-    × Keeps book rules kept
+    Stands book (z book first ats offsets rules events (hi .0)) w edges × Writing out₀ at
+    (bytesOf (joined phases (left book first ats offsets rules events (hi .0) w₀))) out (openOf begun stand head) place
+    (left book first ats offsets rules events (hi .0) w) × Keeps book rules kept
 
 abbrev μ-pieces : tie.MeasureT-pieces
 μ-pieces book first ats offsets rules events hi out₀ at kept₀ edges₀ w₀ head₀ begun₀ stand₀ place₀ out kept edges w head begun stand place = length (left book first ats offsets rules events (hi .0) w) + w .turns
@@ -41,7 +41,12 @@ pieces-holds : tie.Need-pieces-holds Inv-pieces μ-pieces
 pieces-holds c =
     let at-begin = c .before in
     let at-start = at-begin .before .before .before .before .before .before .before .before .before in
-    ((at-begin .begin .ensures .0) .stands, begun-writing ((at-start .args .book) .now) (at-start .args .first) ((at-start .args .ats) .now) ((at-start .args .offsets) .now) ((at-start .args .rules) .now) ((at-start .args .events) .now) ((at-start .args .hi) .0) ((at-start .pre) .0) (at-begin .begin .ensures .0) ((at-start .pre) .1), (at-begin .begin .ensures .1))
+    let args = at-start .args in (
+      (at-begin .begin .ensures .0 .stands),
+      begun-writing (args .book .now) (args .first) (args .ats .now) (args .offsets .now) (args .rules .now)
+          (args .events .now) (args .hi .0) (at-start .pre .0) (at-begin .begin .ensures .0) (at-start .pre .1),
+      (at-begin .begin .ensures .1),
+    )
 
 here-requires : tie.Need-here-requires Inv-pieces μ-pieces
 here-requires c κs =
@@ -63,7 +68,10 @@ point-phase-requires c κs =
     let at-here = at-q .before .before in
     let at-pieces = at-here .before .before in
     let at-start = at-pieces .before .before .before .before .before .before .before .before .before .before .before in
-    ((come ((at-start .args .book) .now) (at-start .args .first) ((at-start .args .ats) .now) ((at-start .args .offsets) .now) ((at-start .args .rules) .now) ((at-start .args .events) .now) ((at-start .args .hi) .0) ((at-start .pre) .0) _ _ _ (at-pieces .pieces .inv .0) (at-here .here .ensures) ((at-q .q .given) .1)) .fits .listed, (come ((at-start .args .book) .now) (at-start .args .first) ((at-start .args .ats) .now) ((at-start .args .offsets) .now) ((at-start .args .rules) .now) ((at-start .args .events) .now) ((at-start .args .hi) .0) ((at-start .pre) .0) _ _ _ (at-pieces .pieces .inv .0) (at-here .here .ensures) ((at-q .q .given) .1)) .fits .point)
+    let args = at-start .args in
+    let comes = come (args .book .now) (args .first) (args .ats .now) (args .offsets .now) (args .rules .now) (args .events .now) (args .hi .0)
+    (at-start .pre .0) _ _ _ (at-pieces .pieces .inv .0) (at-here .here .ensures) (at-q .q .given .1) in
+    (comes .fits .listed, comes .fits .point)
 
 rule-evidence-requires : tie.Need-rule-evidence-requires Inv-pieces μ-pieces
 rule-evidence-requires c κs =
@@ -71,7 +79,10 @@ rule-evidence-requires c κs =
     let at-here = at-q .before .before in
     let at-pieces = at-here .before .before in
     let at-start = at-pieces .before .before .before .before .before .before .before .before .before .before .before in
-    (come ((at-start .args .book) .now) (at-start .args .first) ((at-start .args .ats) .now) ((at-start .args .offsets) .now) ((at-start .args .rules) .now) ((at-start .args .events) .now) ((at-start .args .hi) .0) ((at-start .pre) .0) _ _ _ (at-pieces .pieces .inv .0) (at-here .here .ensures) ((at-q .q .given) .1)) .fits .listed
+    let args = at-start .args in
+    let comes = come (args .book .now) (args .first) (args .ats .now) (args .offsets .now) (args .rules .now) (args .events .now) (args .hi .0)
+    (at-start .pre .0) _ _ _ (at-pieces .pieces .inv .0) (at-here .here .ensures) (at-q .q .given .1) in
+    comes .fits .listed
 
 joins-requires : tie.Need-joins-requires Inv-pieces μ-pieces
 joins-requires c κs = search needs
@@ -86,7 +97,13 @@ events-place-requires c κs =
     let at-here = at-q .before .before in
     let at-pieces = at-here .before .before in
     let at-start = at-pieces .before .before .before .before .before .before .before .before .before .before .before in
-    its-place ((at-start .args .book) .now) (at-start .args .first) ((at-start .args .ats) .now) ((at-start .args .offsets) .now) ((at-start .args .rules) .now) ((at-start .args .events) .now) ((at-start .args .hi) .0) ((at-start .pre) .0) (come ((at-start .args .book) .now) (at-start .args .first) ((at-start .args .ats) .now) ((at-start .args .offsets) .now) ((at-start .args .rules) .now) ((at-start .args .events) .now) ((at-start .args .hi) .0) ((at-start .pre) .0) _ _ _ (at-pieces .pieces .inv .0) (at-here .here .ensures) ((at-q .q .given) .1)) ((at-point-phase .point-phase .ensures) .0) (at-rule-evidence .rule-evidence .ensures) ((at-pieces .pieces .inv) .1) ((at-last-of .last-of .ensures) ∙ last-held (at-pieces .pieces .begun) (at-pieces .pieces .stand) (at-pieces .pieces .head)) (at-joins .joins .ensures)
+    let args = at-start .args in
+    let comes = come (args .book .now) (args .first) (args .ats .now) (args .offsets .now) (args .rules .now) (args .events .now) (args .hi .0)
+    (at-start .pre .0) _ _ _ (at-pieces .pieces .inv .0) (at-here .here .ensures) (at-q .q .given .1) in
+    its-place (args .book .now) (args .first) (args .ats .now) (args .offsets .now) (args .rules .now) (args .events .now) (args .hi .0)
+    (at-start .pre .0) comes (at-point-phase .point-phase .ensures .0) (at-rule-evidence .rule-evidence .ensures) (at-pieces .pieces .inv .1)
+    ((at-last-of .last-of .ensures) ∙ last-held (at-pieces .pieces .begun) (at-pieces .pieces .stand) (at-pieces .pieces .head))
+    (at-joins .joins .ensures)
 
 put-events-requires : tie.Need-put-events-requires Inv-pieces μ-pieces
 put-events-requires c κs =
@@ -99,7 +116,18 @@ put-events-requires c κs =
     let at-here = at-q .before .before in
     let at-pieces = at-here .before .before in
     let at-start = at-pieces .before .before .before .before .before .before .before .before .before .before .before in
-    ((at-start .pre) .0 .zone, (at-start .pre) .0 .events-listed, (at-start .pre) .0 .few, its-room ((at-start .args .book) .now) (at-start .args .first) ((at-start .args .ats) .now) ((at-start .args .offsets) .now) ((at-start .args .rules) .now) ((at-start .args .events) .now) ((at-start .args .hi) .0) ((at-start .pre) .0) (come ((at-start .args .book) .now) (at-start .args .first) ((at-start .args .ats) .now) ((at-start .args .offsets) .now) ((at-start .args .rules) .now) ((at-start .args .events) .now) ((at-start .args .hi) .0) ((at-start .pre) .0) _ _ _ (at-pieces .pieces .inv .0) (at-here .here .ensures) ((at-q .q .given) .1)) ((at-point-phase .point-phase .ensures) .0) (at-rule-evidence .rule-evidence .ensures) ((at-pieces .pieces .inv) .1) ((at-last-of .last-of .ensures) ∙ last-held (at-pieces .pieces .begun) (at-pieces .pieces .stand) (at-pieces .pieces .head)) (at-joins .joins .ensures) (at-events-place .events-place .ensures))
+    let args = at-start .args in
+    let comes = come (args .book .now) (args .first) (args .ats .now) (args .offsets .now) (args .rules .now) (args .events .now) (args .hi .0)
+    (at-start .pre .0) _ _ _ (at-pieces .pieces .inv .0) (at-here .here .ensures) (at-q .q .given .1) in (
+      (at-start .pre .0 .zone),
+      (at-start .pre .0 .events-listed),
+      (at-start .pre .0 .few),
+      its-room (args .book .now) (args .first) (args .ats .now)
+          (args .offsets .now) (args .rules .now) (args .events .now) (args .hi .0) (at-start .pre .0) comes (at-point-phase .point-phase .ensures .0)
+          (at-rule-evidence .rule-evidence .ensures) (at-pieces .pieces .inv .1)
+          ((at-last-of .last-of .ensures) ∙ last-held (at-pieces .pieces .begun) (at-pieces .pieces .stand) (at-pieces .pieces .head))
+          (at-joins .joins .ensures) (at-events-place .events-place .ensures),
+    )
 
 sub-count : tie.Need-sub-count Inv-pieces μ-pieces
 sub-count c =
@@ -113,7 +141,15 @@ cast-head-of c =
     let at-here = at-q .before .before in
     let at-pieces = at-here .before .before in
     let at-start = at-pieces .before .before .before .before .before .before .before .before .before .before .before in
-    omega (arith, its-length (at-put-events .put-events .ensures), found-few ((at-start .args .book) .now) (at-start .args .first) ((at-start .args .ats) .now) ((at-start .args .offsets) .now) ((at-start .args .rules) .now) ((at-start .args .events) .now) ((at-start .args .hi) .0) ((at-start .pre) .0) _ ((come ((at-start .args .book) .now) (at-start .args .first) ((at-start .args .ats) .now) ((at-start .args .offsets) .now) ((at-start .args .rules) .now) ((at-start .args .events) .now) ((at-start .args .hi) .0) ((at-start .pre) .0) _ _ _ (at-pieces .pieces .inv .0) (at-here .here .ensures) ((at-q .q .given) .1)) .fits))
+    let args = at-start .args in
+    let comes = come (args .book .now) (args .first) (args .ats .now) (args .offsets .now) (args .rules .now) (args .events .now) (args .hi .0)
+    (at-start .pre .0) _ _ _ (at-pieces .pieces .inv .0) (at-here .here .ensures) (at-q .q .given .1) in
+    omega (
+      arith,
+      its-length (at-put-events .put-events .ensures),
+      found-few (args .book .now) (args .first) (args .ats .now) (args .offsets .now)
+          (args .rules .now) (args .events .now) (args .hi .0) (at-start .pre .0) _ (comes .fits),
+    )
 
 head-of-requires : tie.Need-head-of-requires Inv-pieces μ-pieces
 head-of-requires c κs =
@@ -121,7 +157,10 @@ head-of-requires c κs =
     let at-here = at-q .before .before in
     let at-pieces = at-here .before .before in
     let at-start = at-pieces .before .before .before .before .before .before .before .before .before .before .before in
-    ((at-start .pre) .0 .zone, (come ((at-start .args .book) .now) (at-start .args .first) ((at-start .args .ats) .now) ((at-start .args .offsets) .now) ((at-start .args .rules) .now) ((at-start .args .events) .now) ((at-start .args .hi) .0) ((at-start .pre) .0) _ _ _ (at-pieces .pieces .inv .0) (at-here .here .ensures) ((at-q .q .given) .1)) .fits)
+    let args = at-start .args in
+    let comes = come (args .book .now) (args .first) (args .ats .now) (args .offsets .now) (args .rules .now) (args .events .now) (args .hi .0)
+    (at-start .pre .0) _ _ _ (at-pieces .pieces .inv .0) (at-here .here .ensures) (at-q .q .given .1) in
+    ((at-start .pre .0 .zone), comes .fits)
 
 record-place-requires : tie.Need-record-place-requires Inv-pieces μ-pieces
 record-place-requires c κs = search needs
@@ -138,7 +177,15 @@ told-requires c κs =
     let at-here = at-q .before .before in
     let at-pieces = at-here .before .before in
     let at-start = at-pieces .before .before .before .before .before .before .before .before .before .before .before in
-    held-count (at-pieces .pieces .begun) _ (at-pieces .pieces .stand) (at-pieces .pieces .head) _ (its-count ((at-start .args .book) .now) (at-start .args .first) ((at-start .args .ats) .now) ((at-start .args .offsets) .now) ((at-start .args .rules) .now) ((at-start .args .events) .now) ((at-start .args .hi) .0) ((at-start .pre) .0) (come ((at-start .args .book) .now) (at-start .args .first) ((at-start .args .ats) .now) ((at-start .args .offsets) .now) ((at-start .args .rules) .now) ((at-start .args .events) .now) ((at-start .args .hi) .0) ((at-start .pre) .0) _ _ _ (at-pieces .pieces .inv .0) (at-here .here .ensures) ((at-q .q .given) .1)) ((at-point-phase .point-phase .ensures) .0) (at-rule-evidence .rule-evidence .ensures) ((at-pieces .pieces .inv) .1) ((at-last-of .last-of .ensures) ∙ last-held (at-pieces .pieces .begun) (at-pieces .pieces .stand) (at-pieces .pieces .head)) (at-joins .joins .ensures) (ap (λ (h : Phase). h .events) (at-head-of .head-of .ensures) ∙ its-length (at-put-events .put-events .ensures))) (joins-held (at-pieces .pieces .begun) (at-pieces .pieces .head) _ _ _ (at-last-of .last-of .ensures) (at-joins .joins .ensures))
+    let args = at-start .args in
+    let comes = come (args .book .now) (args .first) (args .ats .now) (args .offsets .now) (args .rules .now) (args .events .now) (args .hi .0)
+    (at-start .pre .0) _ _ _ (at-pieces .pieces .inv .0) (at-here .here .ensures) (at-q .q .given .1) in
+    held-count (at-pieces .pieces .begun) _ (at-pieces .pieces .stand) (at-pieces .pieces .head) _ (its-count (args .book .now) (args .first)
+    (args .ats .now) (args .offsets .now) (args .rules .now) (args .events .now) (args .hi .0) (at-start .pre .0) comes
+    (at-point-phase .point-phase .ensures .0) (at-rule-evidence .rule-evidence .ensures) (at-pieces .pieces .inv .1)
+    ((at-last-of .last-of .ensures) ∙ last-held (at-pieces .pieces .begun) (at-pieces .pieces .stand) (at-pieces .pieces .head))
+    (at-joins .joins .ensures) (ap (λ (h : Phase). h .events) (at-head-of .head-of .ensures) ∙ its-length (at-put-events .put-events .ensures)))
+    (joins-held (at-pieces .pieces .begun) (at-pieces .pieces .head) _ _ _ (at-last-of .last-of .ensures) (at-joins .joins .ensures))
 
 behind-requires : tie.Need-behind-requires Inv-pieces μ-pieces
 behind-requires c κs =
@@ -146,7 +193,10 @@ behind-requires c κs =
     let at-here = at-q .before .before in
     let at-pieces = at-here .before .before in
     let at-start = at-pieces .before .before .before .before .before .before .before .before .before .before .before in
-    omega (arith, (come ((at-start .args .book) .now) (at-start .args .first) ((at-start .args .ats) .now) ((at-start .args .offsets) .now) ((at-start .args .rules) .now) ((at-start .args .events) .now) ((at-start .args .hi) .0) ((at-start .pre) .0) _ _ _ (at-pieces .pieces .inv .0) (at-here .here .ensures) ((at-q .q .given) .1)) .fits .point, good-rule ((at-start .args .book) .now) _ ((come ((at-start .args .book) .now) (at-start .args .first) ((at-start .args .ats) .now) ((at-start .args .offsets) .now) ((at-start .args .rules) .now) ((at-start .args .events) .now) ((at-start .args .hi) .0) ((at-start .pre) .0) _ _ _ (at-pieces .pieces .inv .0) (at-here .here .ensures) ((at-q .q .given) .1)) .fits .listed) .few)
+    let args = at-start .args in
+    let comes = come (args .book .now) (args .first) (args .ats .now) (args .offsets .now) (args .rules .now) (args .events .now) (args .hi .0)
+    (at-start .pre .0) _ _ _ (at-pieces .pieces .inv .0) (at-here .here .ensures) (at-q .q .given .1) in
+    omega (arith, comes .fits .point, good-rule (args .book .now) _ (comes .fits .listed) .few)
 
 pieces-less : tie.Need-pieces-less Inv-pieces μ-pieces
 pieces-less c =
@@ -157,7 +207,15 @@ pieces-less c =
     let at-here = at-q .before .before in
     let at-pieces = at-here .before .before in
     let at-start = at-pieces .before .before .before .before .before .before .before .before .before .before .before in
-    fewer-on ((at-start .args .book) .now) (at-start .args .first) ((at-start .args .ats) .now) ((at-start .args .offsets) .now) ((at-start .args .rules) .now) ((at-start .args .events) .now) ((at-start .args .hi) .0) (at-behind .behind .ensures) (fewer ((at-start .args .book) .now) (at-start .args .first) ((at-start .args .ats) .now) ((at-start .args .offsets) .now) ((at-start .args .rules) .now) ((at-start .args .events) .now) ((at-start .args .hi) .0) ((at-start .pre) .0) (come ((at-start .args .book) .now) (at-start .args .first) ((at-start .args .ats) .now) ((at-start .args .offsets) .now) ((at-start .args .rules) .now) ((at-start .args .events) .now) ((at-start .args .hi) .0) ((at-start .pre) .0) _ _ _ (at-pieces .pieces .inv .0) (at-here .here .ensures) ((at-q .q .given) .1)) ((at-point-phase .point-phase .ensures) .0) (at-rule-evidence .rule-evidence .ensures))
+    let start-offsets = at-start .args .offsets .now in
+    let start-events = at-start .args .events .now in
+    let start-rules = at-start .args .rules .now in
+    let args = at-start .args in
+    let comes = come (args .book .now) (args .first) (args .ats .now) start-offsets start-rules start-events (args .hi .0) (at-start .pre .0) _ _ _
+    (at-pieces .pieces .inv .0) (at-here .here .ensures) (at-q .q .given .1) in
+    fewer-on (args .book .now) (args .first) (args .ats .now) start-offsets start-rules start-events (args .hi .0) (at-behind .behind .ensures) (fewer
+    (args .book .now) (args .first) (args .ats .now) start-offsets start-rules start-events (args .hi .0) (at-start .pre .0) comes
+    (at-point-phase .point-phase .ensures .0) (at-rule-evidence .rule-evidence .ensures))
 
 pieces-again : tie.Need-pieces-again Inv-pieces μ-pieces
 pieces-again c =
@@ -175,7 +233,25 @@ pieces-again c =
     let at-here = at-q .before .before in
     let at-pieces = at-here .before .before in
     let at-start = at-pieces .before .before .before .before .before .before .before .before .before .before .before in
-    (stands-on ((at-start .args .book) .now) (at-start .args .first) ((at-start .args .ats) .now) ((at-start .args .offsets) .now) ((at-start .args .rules) .now) ((at-start .args .events) .now) ((at-start .args .hi) .0) (at-behind .behind .ensures) ((come ((at-start .args .book) .now) (at-start .args .first) ((at-start .args .ats) .now) ((at-start .args .offsets) .now) ((at-start .args .rules) .now) ((at-start .args .events) .now) ((at-start .args .hi) .0) ((at-start .pre) .0) _ _ _ (at-pieces .pieces .inv .0) (at-here .here .ensures) ((at-q .q .given) .1)) .stands), written-on ((at-start .args .book) .now) (at-start .args .first) ((at-start .args .ats) .now) ((at-start .args .offsets) .now) ((at-start .args .rules) .now) ((at-start .args .events) .now) ((at-start .args .hi) .0) (at-behind .behind .ensures) (written ((at-start .args .book) .now) (at-start .args .first) ((at-start .args .ats) .now) ((at-start .args .offsets) .now) ((at-start .args .rules) .now) ((at-start .args .events) .now) ((at-start .args .hi) .0) ((at-start .pre) .0) (come ((at-start .args .book) .now) (at-start .args .first) ((at-start .args .ats) .now) ((at-start .args .offsets) .now) ((at-start .args .rules) .now) ((at-start .args .events) .now) ((at-start .args .hi) .0) ((at-start .pre) .0) _ _ _ (at-pieces .pieces .inv .0) (at-here .here .ensures) ((at-q .q .given) .1)) ((at-point-phase .point-phase .ensures) .0) (at-rule-evidence .rule-evidence .ensures) ((at-pieces .pieces .inv) .1) ((at-last-of .last-of .ensures) ∙ last-held (at-pieces .pieces .begun) (at-pieces .pieces .stand) (at-pieces .pieces .head)) (at-joins .joins .ensures) (at-events-place .events-place .ensures) (at-put-events .put-events .ensures) (its-length (at-put-events .put-events .ensures)) (at-head-of .head-of .ensures) (held-next (at-pieces .pieces .begun) _ (at-pieces .pieces .stand) (at-pieces .pieces .place) (at-pieces .pieces .head) _ (joins-held (at-pieces .pieces .begun) (at-pieces .pieces .head) _ _ _ (at-last-of .last-of .ensures) (at-joins .joins .ensures)) (at-record-place .record-place .ensures) (at-told .told .ensures))), (at-pieces .pieces .inv .2))
+    let start-offsets = at-start .args .offsets .now in
+    let start-events = at-start .args .events .now in
+    let start-rules = at-start .args .rules .now in
+    let args = at-start .args in
+    let comes = come (args .book .now) (args .first) (args .ats .now) start-offsets start-rules start-events (args .hi .0) (at-start .pre .0) _ _ _
+    (at-pieces .pieces .inv .0) (at-here .here .ensures) (at-q .q .given .1) in (
+      stands-on (args .book .now) (args .first) (args .ats .now) start-offsets start-rules start-events (args .hi .0) (at-behind .behind .ensures)
+          (comes .stands),
+      written-on (args .book .now) (args .first) (args .ats .now) start-offsets start-rules start-events (args .hi .0)
+          (at-behind .behind .ensures) (written (args .book .now) (args .first) (args .ats .now) start-offsets start-rules start-events (args .hi .0)
+          (at-start .pre .0) comes (at-point-phase .point-phase .ensures .0) (at-rule-evidence .rule-evidence .ensures) (at-pieces .pieces .inv .1)
+          ((at-last-of .last-of .ensures) ∙ last-held (at-pieces .pieces .begun) (at-pieces .pieces .stand) (at-pieces .pieces .head))
+          (at-joins .joins .ensures) (at-events-place .events-place .ensures) (at-put-events .put-events .ensures)
+          (its-length (at-put-events .put-events .ensures)) (at-head-of .head-of .ensures) (held-next (at-pieces .pieces .begun) _
+          (at-pieces .pieces .stand) (at-pieces .pieces .place) (at-pieces .pieces .head) _
+          (joins-held (at-pieces .pieces .begun) (at-pieces .pieces .head) _ _ _ (at-last-of .last-of .ensures) (at-joins .joins .ensures))
+          (at-record-place .record-place .ensures) (at-told .told .ensures))),
+      (at-pieces .pieces .inv .2),
+    )
 
 enum-told : tie.Need-enum-told Inv-pieces μ-pieces
 enum-told c = search needs
@@ -186,7 +262,14 @@ turn-on-requires c κs =
     let at-here = at-enum-told .before .before in
     let at-pieces = at-here .before .before in
     let at-start = at-pieces .before .before .before .before .before .before .before .before .before .before .before in
-    ((at-start .pre) .0 .zone, (at-start .pre) .0 .rules-listed, (at-pieces .pieces .inv .2), (shown ((at-start .args .book) .now) (at-start .args .first) ((at-start .args .ats) .now) ((at-start .args .offsets) .now) ((at-start .args .rules) .now) ((at-start .args .events) .now) ((at-start .args .hi) .0) ((at-start .pre) .0) _ _ _ (at-pieces .pieces .inv .0) (at-here .here .ensures) ((at-enum-told .enum-told .given) .1)))
+    let args = at-start .args in (
+      (at-start .pre .0 .zone),
+      (at-start .pre .0 .rules-listed),
+      (at-pieces .pieces .inv .2),
+      (shown (args .book .now) (args .first) (args .ats .now)
+          (args .offsets .now) (args .rules .now) (args .events .now) (args .hi .0) (at-start .pre .0) _ _ _ (at-pieces .pieces .inv .0)
+          (at-here .here .ensures) (at-enum-told .enum-told .given .1)),
+    )
 
 enum-told-2 : tie.Need-enum-told-2 Inv-pieces μ-pieces
 enum-told-2 c = search needs
@@ -199,7 +282,10 @@ pieces-less-2 c =
     let at-next = c .before in
     let at-turn-on = at-next .before .before in
     let at-start = at-turn-on .before .before .before .before .before .before .before .before .before .before .before .before .before .before .before .before .before .before in
-    turn-fewer ((at-start .args .book) .now) (at-start .args .first) ((at-start .args .ats) .now) ((at-start .args .offsets) .now) ((at-start .args .rules) .now) ((at-start .args .events) .now) ((at-start .args .hi) .0) (turned ((at-start .args .book) .now) (at-start .args .first) ((at-start .args .ats) .now) ((at-start .args .offsets) .now) ((at-start .args .rules) .now) ((at-start .args .events) .now) ((at-start .args .hi) .0) _ _ _ (at-turn-on .turn-on .ensures .0) ((at-next .next .given) .1))
+    let args = at-start .args in
+    let on = turned (args .book .now) (args .first) (args .ats .now) (args .offsets .now) (args .rules .now) (args .events .now) (args .hi .0) _ _ _
+    (at-turn-on .turn-on .ensures .0) (at-next .next .given .1) in
+    turn-fewer (args .book .now) (args .first) (args .ats .now) (args .offsets .now) (args .rules .now) (args .events .now) (args .hi .0) on
 
 pieces-again-2 : tie.Need-pieces-again-2 Inv-pieces μ-pieces
 pieces-again-2 c =
@@ -207,7 +293,14 @@ pieces-again-2 c =
     let at-turn-on = at-next .before .before in
     let at-pieces = at-turn-on .before .before .before .before .before .before .before in
     let at-start = at-pieces .before .before .before .before .before .before .before .before .before .before .before in
-    ((turned ((at-start .args .book) .now) (at-start .args .first) ((at-start .args .ats) .now) ((at-start .args .offsets) .now) ((at-start .args .rules) .now) ((at-start .args .events) .now) ((at-start .args .hi) .0) _ _ _ (at-turn-on .turn-on .ensures .0) ((at-next .next .given) .1)) .stands, turn-written ((at-start .args .book) .now) (at-start .args .first) ((at-start .args .ats) .now) ((at-start .args .offsets) .now) ((at-start .args .rules) .now) ((at-start .args .events) .now) ((at-start .args .hi) .0) (turned ((at-start .args .book) .now) (at-start .args .first) ((at-start .args .ats) .now) ((at-start .args .offsets) .now) ((at-start .args .rules) .now) ((at-start .args .events) .now) ((at-start .args .hi) .0) _ _ _ (at-turn-on .turn-on .ensures .0) ((at-next .next .given) .1)) (at-pieces .pieces .inv .1), (at-turn-on .turn-on .ensures .1))
+    let args = at-start .args in
+    let on = turned (args .book .now) (args .first) (args .ats .now) (args .offsets .now) (args .rules .now) (args .events .now) (args .hi .0) _ _ _
+    (at-turn-on .turn-on .ensures .0) (at-next .next .given .1) in (
+      on .stands,
+      turn-written (args .book .now) (args .first) (args .ats .now) (args .offsets .now) (args .rules .now) (args .events .now)
+          (args .hi .0) on (at-pieces .pieces .inv .1),
+      (at-turn-on .turn-on .ensures .1),
+    )
 
 close-requires : tie.Need-close-requires Inv-pieces μ-pieces
 close-requires c κs =
@@ -222,7 +315,11 @@ same-length c =
     let at-pieces = at-turn-on .before .before .before .before .before .before .before in
     let at-begin = at-pieces .before .before in
     let at-start = at-begin .before .before .before .before .before .before .before .before .before in
-    walk-put ((at-start .args .book) .now) (at-start .args .first) ((at-start .args .ats) .now) ((at-start .args .offsets) .now) ((at-start .args .rules) .now) ((at-start .args .events) .now) ((at-start .args .hi) .0) ((at-start .pre) .0) (at-begin .begin .ensures .0) ((at-pieces .pieces .inv) .1) (gone ((at-start .args .book) .now) (at-start .args .first) ((at-start .args .ats) .now) ((at-start .args .offsets) .now) ((at-start .args .rules) .now) ((at-start .args .events) .now) ((at-start .args .hi) .0) _ _ _ (at-turn-on .turn-on .ensures .0) ((at-enum-told2 .enum-told2 .given) .1)) (at-close .close .ensures) .kept
+    let args = at-start .args in
+    let none-left = gone (args .book .now) (args .first) (args .ats .now) (args .offsets .now) (args .rules .now) (args .events .now) (args .hi .0) _
+    _ _ (at-turn-on .turn-on .ensures .0) (at-enum-told2 .enum-told2 .given .1) in
+    walk-put (args .book .now) (args .first) (args .ats .now) (args .offsets .now) (args .rules .now) (args .events .now) (args .hi .0)
+    (at-start .pre .0) (at-begin .begin .ensures .0) (at-pieces .pieces .inv .1) none-left (at-close .close .ensures) .kept
 
 returns : tie.Need-returns Inv-pieces μ-pieces
 returns c =
@@ -232,7 +329,11 @@ returns c =
     let at-pieces = at-turn-on .before .before .before .before .before .before .before in
     let at-begin = at-pieces .before .before in
     let at-start = at-begin .before .before .before .before .before .before .before .before .before in
-    walk-put ((at-start .args .book) .now) (at-start .args .first) ((at-start .args .ats) .now) ((at-start .args .offsets) .now) ((at-start .args .rules) .now) ((at-start .args .events) .now) ((at-start .args .hi) .0) ((at-start .pre) .0) (at-begin .begin .ensures .0) ((at-pieces .pieces .inv) .1) (gone ((at-start .args .book) .now) (at-start .args .first) ((at-start .args .ats) .now) ((at-start .args .offsets) .now) ((at-start .args .rules) .now) ((at-start .args .events) .now) ((at-start .args .hi) .0) _ _ _ (at-turn-on .turn-on .ensures .0) ((at-enum-told2 .enum-told2 .given) .1)) (at-close .close .ensures)
+    let args = at-start .args in
+    let none-left = gone (args .book .now) (args .first) (args .ats .now) (args .offsets .now) (args .rules .now) (args .events .now) (args .hi .0) _
+    _ _ (at-turn-on .turn-on .ensures .0) (at-enum-told2 .enum-told2 .given .1) in
+    walk-put (args .book .now) (args .first) (args .ats .now) (args .offsets .now) (args .rules .now) (args .events .now) (args .hi .0)
+    (at-start .pre .0) (at-begin .begin .ensures .0) (at-pieces .pieces .inv .1) none-left (at-close .close .ensures)
 
 pub put-walk-spec : {M : Type 1} → statement M
 put-walk-spec =

@@ -40,7 +40,14 @@ pieces-holds : tie.Need-pieces-holds Inv-pieces μ-pieces
 pieces-holds c =
     let at-begin = c in
     let at-start = at-begin .before .before .before .before .before .before .before .before in
-    ((at-begin .begin .ensures .0) .stands, size-start (left ((at-start .args .book) .now) (at-start .args .first) ((at-start .args .ats) .now) ((at-start .args .offsets) .now) ((at-start .args .rules) .now) ((at-start .args .events) .now) ((at-start .args .hi) .0) _) (begun-few ((at-start .args .book) .now) (at-start .args .first) ((at-start .args .ats) .now) ((at-start .args .offsets) .now) ((at-start .args .rules) .now) ((at-start .args .events) .now) ((at-start .args .hi) .0) (at-start .pre) (at-begin .begin .ensures .0)), (at-begin .begin .ensures .1))
+    let args = at-start .args in (
+      (at-begin .begin .ensures .0 .stands),
+      size-start
+          (left (args .book .now) (args .first) (args .ats .now) (args .offsets .now) (args .rules .now) (args .events .now) (args .hi .0) _) (begun-few
+          (args .book .now) (args .first) (args .ats .now) (args .offsets .now) (args .rules .now) (args .events .now) (args .hi .0) (at-start .pre)
+          (at-begin .begin .ensures .0)),
+      (at-begin .begin .ensures .1),
+    )
 
 here-requires : tie.Need-here-requires Inv-pieces μ-pieces
 here-requires c κs =
@@ -59,7 +66,10 @@ point-phase-requires c κs =
     let at-here = at-q .before .before in
     let at-pieces = at-here .before .before in
     let at-start = at-pieces .before .before .before .before .before .before .before .before .before in
-    ((come ((at-start .args .book) .now) (at-start .args .first) ((at-start .args .ats) .now) ((at-start .args .offsets) .now) ((at-start .args .rules) .now) ((at-start .args .events) .now) ((at-start .args .hi) .0) (at-start .pre) _ _ _ (at-pieces .pieces .inv .0) (at-here .here .ensures) ((at-q .q .given) .1)) .fits .listed, (come ((at-start .args .book) .now) (at-start .args .first) ((at-start .args .ats) .now) ((at-start .args .offsets) .now) ((at-start .args .rules) .now) ((at-start .args .events) .now) ((at-start .args .hi) .0) (at-start .pre) _ _ _ (at-pieces .pieces .inv .0) (at-here .here .ensures) ((at-q .q .given) .1)) .fits .point)
+    let args = at-start .args in
+    let comes = come (args .book .now) (args .first) (args .ats .now) (args .offsets .now) (args .rules .now) (args .events .now) (args .hi .0)
+    (at-start .pre) _ _ _ (at-pieces .pieces .inv .0) (at-here .here .ensures) (at-q .q .given .1) in
+    (comes .fits .listed, comes .fits .point)
 
 rule-evidence-requires : tie.Need-rule-evidence-requires Inv-pieces μ-pieces
 rule-evidence-requires c κs =
@@ -67,7 +77,10 @@ rule-evidence-requires c κs =
     let at-here = at-q .before .before in
     let at-pieces = at-here .before .before in
     let at-start = at-pieces .before .before .before .before .before .before .before .before .before in
-    (come ((at-start .args .book) .now) (at-start .args .first) ((at-start .args .ats) .now) ((at-start .args .offsets) .now) ((at-start .args .rules) .now) ((at-start .args .events) .now) ((at-start .args .hi) .0) (at-start .pre) _ _ _ (at-pieces .pieces .inv .0) (at-here .here .ensures) ((at-q .q .given) .1)) .fits .listed
+    let args = at-start .args in
+    let comes = come (args .book .now) (args .first) (args .ats .now) (args .offsets .now) (args .rules .now) (args .events .now) (args .hi .0)
+    (at-start .pre) _ _ _ (at-pieces .pieces .inv .0) (at-here .here .ensures) (at-q .q .given .1) in
+    comes .fits .listed
 
 joins-requires : tie.Need-joins-requires Inv-pieces μ-pieces
 joins-requires c κs = search needs
@@ -104,7 +117,10 @@ behind-requires c κs =
     let at-here = at-q .before .before in
     let at-pieces = at-here .before .before in
     let at-start = at-pieces .before .before .before .before .before .before .before .before .before in
-    omega (arith, (come ((at-start .args .book) .now) (at-start .args .first) ((at-start .args .ats) .now) ((at-start .args .offsets) .now) ((at-start .args .rules) .now) ((at-start .args .events) .now) ((at-start .args .hi) .0) (at-start .pre) _ _ _ (at-pieces .pieces .inv .0) (at-here .here .ensures) ((at-q .q .given) .1)) .fits .point, good-rule ((at-start .args .book) .now) _ ((come ((at-start .args .book) .now) (at-start .args .first) ((at-start .args .ats) .now) ((at-start .args .offsets) .now) ((at-start .args .rules) .now) ((at-start .args .events) .now) ((at-start .args .hi) .0) (at-start .pre) _ _ _ (at-pieces .pieces .inv .0) (at-here .here .ensures) ((at-q .q .given) .1)) .fits .listed) .few)
+    let args = at-start .args in
+    let comes = come (args .book .now) (args .first) (args .ats .now) (args .offsets .now) (args .rules .now) (args .events .now) (args .hi .0)
+    (at-start .pre) _ _ _ (at-pieces .pieces .inv .0) (at-here .here .ensures) (at-q .q .given .1) in
+    omega (arith, comes .fits .point, good-rule (args .book .now) _ (comes .fits .listed) .few)
 
 pieces-less : tie.Need-pieces-less Inv-pieces μ-pieces
 pieces-less c =
@@ -115,7 +131,15 @@ pieces-less c =
     let at-here = at-q .before .before in
     let at-pieces = at-here .before .before in
     let at-start = at-pieces .before .before .before .before .before .before .before .before .before in
-    fewer-on ((at-start .args .book) .now) (at-start .args .first) ((at-start .args .ats) .now) ((at-start .args .offsets) .now) ((at-start .args .rules) .now) ((at-start .args .events) .now) ((at-start .args .hi) .0) (at-behind .behind .ensures) (fewer ((at-start .args .book) .now) (at-start .args .first) ((at-start .args .ats) .now) ((at-start .args .offsets) .now) ((at-start .args .rules) .now) ((at-start .args .events) .now) ((at-start .args .hi) .0) (at-start .pre) (come ((at-start .args .book) .now) (at-start .args .first) ((at-start .args .ats) .now) ((at-start .args .offsets) .now) ((at-start .args .rules) .now) ((at-start .args .events) .now) ((at-start .args .hi) .0) (at-start .pre) _ _ _ (at-pieces .pieces .inv .0) (at-here .here .ensures) ((at-q .q .given) .1)) ((at-point-phase .point-phase .ensures) .0) (at-rule-evidence .rule-evidence .ensures))
+    let start-offsets = at-start .args .offsets .now in
+    let start-events = at-start .args .events .now in
+    let start-rules = at-start .args .rules .now in
+    let args = at-start .args in
+    let comes = come (args .book .now) (args .first) (args .ats .now) start-offsets start-rules start-events (args .hi .0) (at-start .pre) _ _ _
+    (at-pieces .pieces .inv .0) (at-here .here .ensures) (at-q .q .given .1) in
+    fewer-on (args .book .now) (args .first) (args .ats .now) start-offsets start-rules start-events (args .hi .0) (at-behind .behind .ensures) (fewer
+    (args .book .now) (args .first) (args .ats .now) start-offsets start-rules start-events (args .hi .0) (at-start .pre) comes
+    (at-point-phase .point-phase .ensures .0) (at-rule-evidence .rule-evidence .ensures))
 
 pieces-again : tie.Need-pieces-again Inv-pieces μ-pieces
 pieces-again c =
@@ -129,7 +153,20 @@ pieces-again c =
     let at-here = at-q .before .before in
     let at-pieces = at-here .before .before in
     let at-start = at-pieces .before .before .before .before .before .before .before .before .before in
-    (stands-on ((at-start .args .book) .now) (at-start .args .first) ((at-start .args .ats) .now) ((at-start .args .offsets) .now) ((at-start .args .rules) .now) ((at-start .args .events) .now) ((at-start .args .hi) .0) (at-behind .behind .ensures) ((come ((at-start .args .book) .now) (at-start .args .first) ((at-start .args .ats) .now) ((at-start .args .offsets) .now) ((at-start .args .rules) .now) ((at-start .args .events) .now) ((at-start .args .hi) .0) (at-start .pre) _ _ _ (at-pieces .pieces .inv .0) (at-here .here .ensures) ((at-q .q .given) .1)) .stands), sized-on ((at-start .args .book) .now) (at-start .args .first) ((at-start .args .ats) .now) ((at-start .args .offsets) .now) ((at-start .args .rules) .now) ((at-start .args .events) .now) ((at-start .args .hi) .0) (at-behind .behind .ensures) (sized ((at-start .args .book) .now) (at-start .args .first) ((at-start .args .ats) .now) ((at-start .args .offsets) .now) ((at-start .args .rules) .now) ((at-start .args .events) .now) ((at-start .args .hi) .0) (at-start .pre) (come ((at-start .args .book) .now) (at-start .args .first) ((at-start .args .ats) .now) ((at-start .args .offsets) .now) ((at-start .args .rules) .now) ((at-start .args .events) .now) ((at-start .args .hi) .0) (at-start .pre) _ _ _ (at-pieces .pieces .inv .0) (at-here .here .ensures) ((at-q .q .given) .1)) ((at-point-phase .point-phase .ensures) .0) (at-rule-evidence .rule-evidence .ensures) ((at-pieces .pieces .inv) .1) (at-joins .joins .ensures) ((at-record-size .record-size .ensures) .0) ((at-count-events .count-events .ensures) .0) refl), (at-pieces .pieces .inv .2))
+    let start-offsets = at-start .args .offsets .now in
+    let start-events = at-start .args .events .now in
+    let start-rules = at-start .args .rules .now in
+    let args = at-start .args in
+    let comes = come (args .book .now) (args .first) (args .ats .now) start-offsets start-rules start-events (args .hi .0) (at-start .pre) _ _ _
+    (at-pieces .pieces .inv .0) (at-here .here .ensures) (at-q .q .given .1) in (
+      stands-on (args .book .now) (args .first) (args .ats .now) start-offsets start-rules start-events (args .hi .0) (at-behind .behind .ensures)
+          (comes .stands),
+      sized-on (args .book .now) (args .first) (args .ats .now) start-offsets start-rules start-events (args .hi .0)
+          (at-behind .behind .ensures) (sized (args .book .now) (args .first) (args .ats .now) start-offsets start-rules start-events (args .hi .0)
+          (at-start .pre) comes (at-point-phase .point-phase .ensures .0) (at-rule-evidence .rule-evidence .ensures) (at-pieces .pieces .inv .1)
+          (at-joins .joins .ensures) (at-record-size .record-size .ensures .0) (at-count-events .count-events .ensures .0) refl),
+      (at-pieces .pieces .inv .2),
+    )
 
 enum-told : tie.Need-enum-told Inv-pieces μ-pieces
 enum-told c = search needs
@@ -140,7 +177,14 @@ turn-on-requires c κs =
     let at-here = at-enum-told .before .before in
     let at-pieces = at-here .before .before in
     let at-start = at-pieces .before .before .before .before .before .before .before .before .before in
-    ((at-start .pre) .zone, (at-start .pre) .rules-listed, (at-pieces .pieces .inv .2), (shown ((at-start .args .book) .now) (at-start .args .first) ((at-start .args .ats) .now) ((at-start .args .offsets) .now) ((at-start .args .rules) .now) ((at-start .args .events) .now) ((at-start .args .hi) .0) (at-start .pre) _ _ _ (at-pieces .pieces .inv .0) (at-here .here .ensures) ((at-enum-told .enum-told .given) .1)))
+    let args = at-start .args in (
+      (at-start .pre .zone),
+      (at-start .pre .rules-listed),
+      (at-pieces .pieces .inv .2),
+      (shown (args .book .now) (args .first) (args .ats .now)
+          (args .offsets .now) (args .rules .now) (args .events .now) (args .hi .0) (at-start .pre) _ _ _ (at-pieces .pieces .inv .0)
+          (at-here .here .ensures) (at-enum-told .enum-told .given .1)),
+    )
 
 enum-told-2 : tie.Need-enum-told-2 Inv-pieces μ-pieces
 enum-told-2 c = search needs
@@ -153,7 +197,10 @@ pieces-less-2 c =
     let at-next = c .before in
     let at-turn-on = at-next .before .before in
     let at-start = at-turn-on .before .before .before .before .before .before .before .before .before .before .before .before .before .before .before .before in
-    turn-fewer ((at-start .args .book) .now) (at-start .args .first) ((at-start .args .ats) .now) ((at-start .args .offsets) .now) ((at-start .args .rules) .now) ((at-start .args .events) .now) ((at-start .args .hi) .0) (turned ((at-start .args .book) .now) (at-start .args .first) ((at-start .args .ats) .now) ((at-start .args .offsets) .now) ((at-start .args .rules) .now) ((at-start .args .events) .now) ((at-start .args .hi) .0) _ _ _ (at-turn-on .turn-on .ensures .0) ((at-next .next .given) .1))
+    let args = at-start .args in
+    let on = turned (args .book .now) (args .first) (args .ats .now) (args .offsets .now) (args .rules .now) (args .events .now) (args .hi .0) _ _ _
+    (at-turn-on .turn-on .ensures .0) (at-next .next .given .1) in
+    turn-fewer (args .book .now) (args .first) (args .ats .now) (args .offsets .now) (args .rules .now) (args .events .now) (args .hi .0) on
 
 pieces-again-2 : tie.Need-pieces-again-2 Inv-pieces μ-pieces
 pieces-again-2 c =
@@ -161,7 +208,14 @@ pieces-again-2 c =
     let at-turn-on = at-next .before .before in
     let at-pieces = at-turn-on .before .before .before .before .before .before .before in
     let at-start = at-pieces .before .before .before .before .before .before .before .before .before in
-    ((turned ((at-start .args .book) .now) (at-start .args .first) ((at-start .args .ats) .now) ((at-start .args .offsets) .now) ((at-start .args .rules) .now) ((at-start .args .events) .now) ((at-start .args .hi) .0) _ _ _ (at-turn-on .turn-on .ensures .0) ((at-next .next .given) .1)) .stands, turn-sized ((at-start .args .book) .now) (at-start .args .first) ((at-start .args .ats) .now) ((at-start .args .offsets) .now) ((at-start .args .rules) .now) ((at-start .args .events) .now) ((at-start .args .hi) .0) (turned ((at-start .args .book) .now) (at-start .args .first) ((at-start .args .ats) .now) ((at-start .args .offsets) .now) ((at-start .args .rules) .now) ((at-start .args .events) .now) ((at-start .args .hi) .0) _ _ _ (at-turn-on .turn-on .ensures .0) ((at-next .next .given) .1)) (at-pieces .pieces .inv .1), (at-turn-on .turn-on .ensures .1))
+    let args = at-start .args in
+    let on = turned (args .book .now) (args .first) (args .ats .now) (args .offsets .now) (args .rules .now) (args .events .now) (args .hi .0) _ _ _
+    (at-turn-on .turn-on .ensures .0) (at-next .next .given .1) in (
+      on .stands,
+      turn-sized (args .book .now) (args .first) (args .ats .now) (args .offsets .now) (args .rules .now) (args .events .now) (args .hi .0)
+          on (at-pieces .pieces .inv .1),
+      (at-turn-on .turn-on .ensures .1),
+    )
 
 returns : tie.Need-returns Inv-pieces μ-pieces
 returns c =
@@ -170,7 +224,14 @@ returns c =
     let at-pieces = at-turn-on .before .before .before .before .before .before .before in
     let at-begin = at-pieces .before in
     let at-start = at-begin .before .before .before .before .before .before .before .before in
-    let e = size-end ((at-pieces .pieces .inv) .1) (gone ((at-start .args .book) .now) (at-start .args .first) ((at-start .args .ats) .now) ((at-start .args .offsets) .now) ((at-start .args .rules) .now) ((at-start .args .events) .now) ((at-start .args .hi) .0) _ _ _ (at-turn-on .turn-on .ensures .0) ((at-enum-told2 .enum-told2 .given) .1)) in (e .0 ∙ ap (λ (l : List (Span Shown)). length (encodeAll (phaseForms l))) (sym (begun-spans ((at-start .args .book) .now) (at-start .args .first) ((at-start .args .ats) .now) ((at-start .args .offsets) .now) ((at-start .args .rules) .now) ((at-start .args .events) .now) ((at-start .args .hi) .0) (at-start .pre) (at-begin .begin .ensures .0))), e .1)
+    let args = at-start .args in
+    let none-left = gone (args .book .now) (args .first) (args .ats .now) (args .offsets .now) (args .rules .now) (args .events .now) (args .hi .0) _
+    _ _ (at-turn-on .turn-on .ensures .0) (at-enum-told2 .enum-told2 .given .1) in
+    let e = size-end (at-pieces .pieces .inv .1) none-left in (
+      e .0 ∙ ap (λ (l : List (Span Shown)). length (encodeAll (phaseForms l))) (sym (begun-spans (args .book .now) (args .first) (args .ats .now)
+          (args .offsets .now) (args .rules .now) (args .events .now) (args .hi .0) (at-start .pre) (at-begin .begin .ensures .0))),
+      e .1,
+    )
 
 pub walk-size-spec : {M : Type 1} → statement M
 walk-size-spec =

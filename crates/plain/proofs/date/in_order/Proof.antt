@@ -30,7 +30,9 @@ returns c =
     let at-enum-told = c in
     let at-governing = at-enum-told .before .before in
     let at-start = at-governing .before .before .before .before .before in
-    sym (ap (inOrder (takenAt (zoneOf (at-start .args .first) ((at-start .args .ats) .now) ((at-start .args .offsets) .now)) ((at-start .args .d) .0)) ((at-start .args .from) .0) ((at-start .args .to) .0)) (sym ((at-governing .governing .ensures) .0) ∙ ap (ruled ((at-start .args .book) .now)) ((at-enum-told .enum-told .given) .1)))
+    let args = at-start .args in
+    sym (ap (inOrder (takenAt (zoneOf (args .first) (args .ats .now) (args .offsets .now)) (args .d .0)) (args .from .0) (args .to .0))
+    (sym (at-governing .governing .ensures .0) ∙ ap (ruled (args .book .now)) (at-enum-told .enum-told .given .1)))
 
 returns-2 : tie.Need-returns-2
 returns-2 c =
@@ -38,7 +40,10 @@ returns-2 c =
     let at-rule = at-rises .before .before in
     let at-governing = at-rule .before .before in
     let at-start = at-governing .before .before .before .before .before in
-    (at-rises .rises .ensures) ∙ sym (ap (inOrder (takenAt (zoneOf (at-start .args .first) ((at-start .args .ats) .now) ((at-start .args .offsets) .now)) ((at-start .args .d) .0)) ((at-start .args .from) .0) ((at-start .args .to) .0)) (sym ((at-governing .governing .ensures) .0) ∙ ap (ruled ((at-start .args .book) .now)) ((at-rule .rule .given) .1)))
+    let args = at-start .args in
+    (at-rises .rises .ensures) ∙ sym (ap
+    (inOrder (takenAt (zoneOf (args .first) (args .ats .now) (args .offsets .now)) (args .d .0)) (args .from .0) (args .to .0))
+    (sym (at-governing .governing .ensures .0) ∙ ap (ruled (args .book .now)) (at-rule .rule .given .1)))
 
 pub in-order-spec : {M : Type 1} → statement M
 in-order-spec =

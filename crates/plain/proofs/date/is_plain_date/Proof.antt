@@ -28,7 +28,11 @@ returns c =
     let at-midnight-after = at-in-order .before .before .before .before .before in
     let at-to-utc-at = at-midnight-after .before in
     let at-start = at-to-utc-at .before .before .before .before .before in
-    date-by (zoneOf (at-start .args .first) ((at-start .args .ats) .now) ((at-start .args .offsets) .now)) (governing (map (ruleAt ((at-start .args .book) .now)) ((at-start .args .rules) .now))) ((at-start .args .d) .0) (ap (λ (b : Boundary). b .at .0) (at-to-utc-at .to-utc-at .ensures)) (ap (λ (b : Boundary). b .at .0) (at-midnight-after .midnight-after .ensures)) (at-in-order .in-order .ensures) (at-reads-throughout .reads-throughout .ensures)
+    let args = at-start .args in
+    date-by (zoneOf (args .first) (args .ats .now) (args .offsets .now)) (governing (map (ruleAt (args .book .now)) (args .rules .now))) (args .d .0)
+    (ap (λ (b : Boundary). b .at .0) (at-to-utc-at .to-utc-at .ensures))
+    (ap (λ (b : Boundary). b .at .0) (at-midnight-after .midnight-after .ensures)) (at-in-order .in-order .ensures)
+    (at-reads-throughout .reads-throughout .ensures)
 
 pub is-plain-date-spec : {M : Type 1} → statement M
 is-plain-date-spec =

@@ -50,7 +50,13 @@ returns c =
     let at-loop = at-loop-test .before in
     let at-rule-points = at-loop .before in
     let at-start = at-rule-points .before .before .before .before in
-    sym ((at-loop .loop .inv) .1 ∙ rises-stops (takenAt (zoneOf (at-start .args .first) ((at-start .args .ats) .now) ((at-start .args .offsets) .now)) ((at-start .args .d) .0)) ((at-start .args .to) .0) (at-loop .loop .before) (at-loop .loop .i) (ruleAt ((at-start .args .book) .now) (at-start .args .rule) .points) (omega (arith, (at-rule-points .rule-points .ensures) .0, (at-loop-test .loop-test .taken))) (ap (λ (b : Boundary). b .at .0) ((at-to-utc-at .to-utc-at .ensures) ∙ ap (λ (x : ℕ). boundaryAt (zoneOf (at-start .args .first) ((at-start .args .ats) .now) ((at-start .args .offsets) .now)) ((at-start .args .d) .0) x Exact) ((at-point-time .point-time .ensures) .0))) (at-if1 .if1 .taken))
+    let args = at-start .args in
+    let zoneOf-is = zoneOf (args .first) (args .ats .now) (args .offsets .now) in
+    sym ((at-loop .loop .inv .1) ∙ rises-stops (takenAt zoneOf-is (args .d .0)) (args .to .0) (at-loop .loop .before) (at-loop .loop .i)
+    (ruleAt (args .book .now) (args .rule) .points) (omega (arith, (at-rule-points .rule-points .ensures .0), (at-loop-test .loop-test .taken))) (ap
+    (λ (b : Boundary). b .at .0)
+    ((at-to-utc-at .to-utc-at .ensures) ∙ ap (λ (x : ℕ). boundaryAt zoneOf-is (args .d .0) x Exact) (at-point-time .point-time .ensures .0)))
+    (at-if1 .if1 .taken))
 
 add-i : tie.Need-add-i Inv-loop μ-loop
 add-i c =
@@ -72,7 +78,15 @@ loop-again c =
     let at-loop = at-loop-test .before in
     let at-rule-points = at-loop .before in
     let at-start = at-rule-points .before .before .before .before in
-    ((omega (arith, (at-rule-points .rule-points .ensures) .0, (at-loop-test .loop-test .taken))), (at-loop .loop .inv) .1 ∙ rises-goes (takenAt (zoneOf (at-start .args .first) ((at-start .args .ats) .now) ((at-start .args .offsets) .now)) ((at-start .args .d) .0)) ((at-start .args .to) .0) (at-loop .loop .before) (at-loop .loop .i) (ruleAt ((at-start .args .book) .now) (at-start .args .rule) .points) (omega (arith, (at-rule-points .rule-points .ensures) .0, (at-loop-test .loop-test .taken))) (ap (λ (b : Boundary). b .at .0) ((at-to-utc-at .to-utc-at .ensures) ∙ ap (λ (x : ℕ). boundaryAt (zoneOf (at-start .args .first) ((at-start .args .ats) .now) ((at-start .args .offsets) .now)) ((at-start .args .d) .0) x Exact) ((at-point-time .point-time .ensures) .0))) (at-if1 .if1 .left))
+    let args = at-start .args in
+    let zoneOf-is = zoneOf (args .first) (args .ats .now) (args .offsets .now) in (
+      (omega (arith, (at-rule-points .rule-points .ensures .0), (at-loop-test .loop-test .taken))),
+      (at-loop .loop .inv .1) ∙ rises-goes
+          (takenAt zoneOf-is (args .d .0)) (args .to .0) (at-loop .loop .before) (at-loop .loop .i) (ruleAt (args .book .now) (args .rule) .points)
+          (omega (arith, (at-rule-points .rule-points .ensures .0), (at-loop-test .loop-test .taken))) (ap (λ (b : Boundary). b .at .0)
+          ((at-to-utc-at .to-utc-at .ensures) ∙ ap (λ (x : ℕ). boundaryAt zoneOf-is (args .d .0) x Exact) (at-point-time .point-time .ensures .0)))
+          (at-if1 .if1 .left),
+    )
 
 returns-2 : tie.Need-returns-2 Inv-loop μ-loop
 returns-2 c =
@@ -80,7 +94,10 @@ returns-2 c =
     let at-loop = at-loop-test .before in
     let at-rule-points = at-loop .before in
     let at-start = at-rule-points .before .before .before .before in
-    sym ((at-loop .loop .inv) .1 ∙ rises-end (takenAt (zoneOf (at-start .args .first) ((at-start .args .ats) .now) ((at-start .args .offsets) .now)) ((at-start .args .d) .0)) ((at-start .args .to) .0) (at-loop .loop .before) (at-loop .loop .i) (ruleAt ((at-start .args .book) .now) (at-start .args .rule) .points) (omega (arith, (at-rule-points .rule-points .ensures) .0, (at-loop-test .loop-test .left))) ((at-loop .loop .inv) .0))
+    let args = at-start .args in
+    sym ((at-loop .loop .inv .1) ∙ rises-end (takenAt (zoneOf (args .first) (args .ats .now) (args .offsets .now)) (args .d .0)) (args .to .0)
+    (at-loop .loop .before) (at-loop .loop .i) (ruleAt (args .book .now) (args .rule) .points)
+    (omega (arith, (at-rule-points .rule-points .ensures .0), (at-loop-test .loop-test .left))) (at-loop .loop .inv .0))
 
 pub rises-spec : {M : Type 1} → statement M
 rises-spec =

@@ -20,7 +20,9 @@ returns c =
     let at-if1 = c in
     let at-day-at = at-if1 .before in
     let at-start = at-day-at .before .before .before .before .before in
-    no-yesterday (zoneOf (at-start .args .first) ((at-start .args .ats) .now) ((at-start .args .offsets) .now)) (governing (map (ruleAt ((at-start .args .book) .now)) ((at-start .args .rules) .now))) ((at-start .args .start) .0) ((at-start .args .end) .0) ((at-day-at .day-at .result) .0) ((at-start .pre) .2) (at-day-at .day-at .ensures) (at-if1 .if1 .taken)
+    let args = at-start .args in
+    no-yesterday (zoneOf (args .first) (args .ats .now) (args .offsets .now)) (governing (map (ruleAt (args .book .now)) (args .rules .now)))
+    (args .start .0) (args .end .0) (at-day-at .day-at .result .0) (at-start .pre .2) (at-day-at .day-at .ensures) (at-if1 .if1 .taken)
 
 to-utc-at-requires : tie.Need-to-utc-at-requires
 to-utc-at-requires c κs = search needs
@@ -31,7 +33,10 @@ returns-2 c =
     let at-to-utc-at = at-if2 .before .before .before .before in
     let at-day-at = at-to-utc-at .before .before in
     let at-start = at-day-at .before .before .before .before .before in
-    early-start (zoneOf (at-start .args .first) ((at-start .args .ats) .now) ((at-start .args .offsets) .now)) (governing (map (ruleAt ((at-start .args .book) .now)) ((at-start .args .rules) .now))) ((at-start .args .start) .0) ((at-start .args .end) .0) ((at-day-at .day-at .result) .0) ((at-start .pre) .2) (at-day-at .day-at .ensures) (ap (λ (b : Boundary). b .at .0) (at-to-utc-at .to-utc-at .ensures)) (at-if2 .if2 .taken)
+    let args = at-start .args in
+    early-start (zoneOf (args .first) (args .ats .now) (args .offsets .now)) (governing (map (ruleAt (args .book .now)) (args .rules .now)))
+    (args .start .0) (args .end .0) (at-day-at .day-at .result .0) (at-start .pre .2) (at-day-at .day-at .ensures)
+    (ap (λ (b : Boundary). b .at .0) (at-to-utc-at .to-utc-at .ensures)) (at-if2 .if2 .taken)
 
 sub-t14 : tie.Need-sub-t14
 sub-t14 c = search needs
@@ -45,13 +50,21 @@ returns-3 c =
     let at-is-plain-date = at-if3 .before in
     let at-day-at = at-is-plain-date .before .before .before .before .before .before .before in
     let at-start = at-day-at .before .before .before .before .before in
-    yesterday-not (zoneOf (at-start .args .first) ((at-start .args .ats) .now) ((at-start .args .offsets) .now)) (governing (map (ruleAt ((at-start .args .book) .now)) ((at-start .args .rules) .now))) ((at-start .args .start) .0) ((at-start .args .end) .0) ((at-day-at .day-at .result) .0) ((at-start .pre) .2) (at-day-at .day-at .ensures) (at-is-plain-date .is-plain-date .ensures) (not-true (at-is-plain-date .is-plain-date .result) (at-if3 .if3 .taken))
+    let args = at-start .args in
+    yesterday-not (zoneOf (args .first) (args .ats .now) (args .offsets .now)) (governing (map (ruleAt (args .book .now)) (args .rules .now)))
+    (args .start .0) (args .end .0) (at-day-at .day-at .result .0) (at-start .pre .2) (at-day-at .day-at .ensures)
+    (at-is-plain-date .is-plain-date .ensures) (not-true (at-is-plain-date .is-plain-date .result) (at-if3 .if3 .taken))
 
 reaches-requires : tie.Need-reaches-requires
 reaches-requires c κs =
     let at-day-at = c .before .before .before .before .before .before .before .before in
     let at-start = at-day-at .before .before .before .before .before in
-    ((at-start .pre) .0, (at-start .pre) .1, omega (arith, (at-day-at .day-at .ensures), date-small (at-start .args .first) ((at-start .args .ats) .now) ((at-start .args .offsets) .now) ((at-start .args .start) .0) ((at-start .pre) .0)))
+    let args = at-start .args in (
+      (at-start .pre .0),
+      (at-start .pre .1),
+      omega
+          (arith, (at-day-at .day-at .ensures), date-small (args .first) (args .ats .now) (args .offsets .now) (args .start .0) (at-start .pre .0)),
+    )
 
 returns-4 : tie.Need-returns-4
 returns-4 c =
@@ -63,7 +76,11 @@ returns-4 c =
     let at-if1 = at-to-utc-at .before in
     let at-day-at = at-if1 .before in
     let at-start = at-day-at .before .before .before .before .before in
-    as-run (zoneOf (at-start .args .first) ((at-start .args .ats) .now) ((at-start .args .offsets) .now)) (governing (map (ruleAt ((at-start .args .book) .now)) ((at-start .args .rules) .now))) ((at-start .args .start) .0) ((at-start .args .end) .0) ((at-day-at .day-at .result) .0) ((at-start .pre) .2) (at-day-at .day-at .ensures) (ap (λ (b : Boundary). b .at .0) (at-to-utc-at .to-utc-at .ensures)) (at-is-plain-date .is-plain-date .ensures) (at-if1 .if1 .left) (at-if2 .if2 .left) (not-false (at-is-plain-date .is-plain-date .result) (at-if3 .if3 .left)) (at-reaches .reaches .ensures)
+    let args = at-start .args in
+    as-run (zoneOf (args .first) (args .ats .now) (args .offsets .now)) (governing (map (ruleAt (args .book .now)) (args .rules .now)))
+    (args .start .0) (args .end .0) (at-day-at .day-at .result .0) (at-start .pre .2) (at-day-at .day-at .ensures)
+    (ap (λ (b : Boundary). b .at .0) (at-to-utc-at .to-utc-at .ensures)) (at-is-plain-date .is-plain-date .ensures) (at-if1 .if1 .left)
+    (at-if2 .if2 .left) (not-false (at-is-plain-date .is-plain-date .result) (at-if3 .if3 .left)) (at-reaches .reaches .ensures)
 
 pub is-plain-spec : {M : Type 1} → statement M
 is-plain-spec =

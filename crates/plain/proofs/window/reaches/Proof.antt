@@ -42,7 +42,12 @@ returns c =
     let at-loop-test = at-is-plain-date .before .before in
     let at-loop = at-loop-test .before in
     let at-start = at-loop .before .before .before .before .before in
-    left-first (zoneOf (at-start .args .first) ((at-start .args .ats) .now) ((at-start .args .offsets) .now)) (governing (map (ruleAt ((at-start .args .book) .now)) ((at-start .args .rules) .now))) ((at-start .args .end) .0) ((at-start .args .d) .0) (sym ((at-loop .loop .inv) .1 ∙ left-stops (zoneOf (at-start .args .first) ((at-start .args .ats) .now) ((at-start .args .offsets) .now)) (governing (map (ruleAt ((at-start .args .book) .now)) ((at-start .args .rules) .now))) ((at-start .args .end) .0) ((at-start .args .d) .0) (at-loop .loop .n) (omega (arith, (at-loop-test .loop-test .taken))) (at-is-plain-date .is-plain-date .ensures) (not-true (at-is-plain-date .is-plain-date .result) (at-if1 .if1 .taken))))
+    let args = at-start .args in
+    let zoneOf-is = zoneOf (args .first) (args .ats .now) (args .offsets .now) in
+    let g = governing (map (ruleAt (args .book .now)) (args .rules .now)) in
+    left-first zoneOf-is g (args .end .0) (args .d .0) (sym ((at-loop .loop .inv .1) ∙ left-stops zoneOf-is g (args .end .0) (args .d .0)
+    (at-loop .loop .n) (omega (arith, (at-loop-test .loop-test .taken))) (at-is-plain-date .is-plain-date .ensures)
+    (not-true (at-is-plain-date .is-plain-date .result) (at-if1 .if1 .taken))))
 
 to-utc-at-requires : tie.Need-to-utc-at-requires Inv-loop μ-loop
 to-utc-at-requires c κs =
@@ -58,7 +63,13 @@ returns-2 c =
     let at-loop-test = at-is-plain-date .before .before in
     let at-loop = at-loop-test .before in
     let at-start = at-loop .before .before .before .before .before in
-    left-first (zoneOf (at-start .args .first) ((at-start .args .ats) .now) ((at-start .args .offsets) .now)) (governing (map (ruleAt ((at-start .args .book) .now)) ((at-start .args .rules) .now))) ((at-start .args .end) .0) ((at-start .args .d) .0) (sym ((at-loop .loop .inv) .1 ∙ left-ends (zoneOf (at-start .args .first) ((at-start .args .ats) .now) ((at-start .args .offsets) .now)) (governing (map (ruleAt ((at-start .args .book) .now)) ((at-start .args .rules) .now))) ((at-start .args .end) .0) ((at-start .args .d) .0) (at-loop .loop .n) (omega (arith, (at-loop-test .loop-test .taken))) (at-is-plain-date .is-plain-date .ensures) (ap (λ (b : Boundary). b .at .0) (at-to-utc-at .to-utc-at .ensures)) (not-false (at-is-plain-date .is-plain-date .result) (at-if1 .if1 .left)) (at-if2 .if2 .taken)))
+    let args = at-start .args in
+    let zoneOf-is = zoneOf (args .first) (args .ats .now) (args .offsets .now) in
+    let g = governing (map (ruleAt (args .book .now)) (args .rules .now)) in
+    left-first zoneOf-is g (args .end .0) (args .d .0) (sym ((at-loop .loop .inv .1) ∙ left-ends zoneOf-is g (args .end .0) (args .d .0)
+    (at-loop .loop .n) (omega (arith, (at-loop-test .loop-test .taken))) (at-is-plain-date .is-plain-date .ensures)
+    (ap (λ (b : Boundary). b .at .0) (at-to-utc-at .to-utc-at .ensures)) (not-false (at-is-plain-date .is-plain-date .result) (at-if1 .if1 .left))
+    (at-if2 .if2 .taken)))
 
 add-n : tie.Need-add-n Inv-loop μ-loop
 add-n c =
@@ -79,14 +90,25 @@ loop-again c =
     let at-loop-test = at-is-plain-date .before .before in
     let at-loop = at-loop-test .before in
     let at-start = at-loop .before .before .before .before .before in
-    ((omega (arith, (at-loop-test .loop-test .taken))), (at-loop .loop .inv) .1 ∙ left-goes (zoneOf (at-start .args .first) ((at-start .args .ats) .now) ((at-start .args .offsets) .now)) (governing (map (ruleAt ((at-start .args .book) .now)) ((at-start .args .rules) .now))) ((at-start .args .end) .0) ((at-start .args .d) .0) (at-loop .loop .n) (omega (arith, (at-loop-test .loop-test .taken))) (at-is-plain-date .is-plain-date .ensures) (ap (λ (b : Boundary). b .at .0) (at-to-utc-at .to-utc-at .ensures)) (not-false (at-is-plain-date .is-plain-date .result) (at-if1 .if1 .left)) (at-if2 .if2 .left))
+    let args = at-start .args in (
+      (omega (arith, (at-loop-test .loop-test .taken))),
+      (at-loop .loop .inv .1) ∙ left-goes
+          (zoneOf (args .first) (args .ats .now) (args .offsets .now)) (governing (map (ruleAt (args .book .now)) (args .rules .now))) (args .end .0)
+          (args .d .0) (at-loop .loop .n) (omega (arith, (at-loop-test .loop-test .taken))) (at-is-plain-date .is-plain-date .ensures)
+          (ap (λ (b : Boundary). b .at .0) (at-to-utc-at .to-utc-at .ensures)) (not-false (at-is-plain-date .is-plain-date .result) (at-if1 .if1 .left))
+          (at-if2 .if2 .left),
+    )
 
 returns-3 : tie.Need-returns-3 Inv-loop μ-loop
 returns-3 c =
     let at-loop-test = c in
     let at-loop = at-loop-test .before in
     let at-start = at-loop .before .before .before .before .before in
-    left-first (zoneOf (at-start .args .first) ((at-start .args .ats) .now) ((at-start .args .offsets) .now)) (governing (map (ruleAt ((at-start .args .book) .now)) ((at-start .args .rules) .now))) ((at-start .args .end) .0) ((at-start .args .d) .0) (sym ((at-loop .loop .inv) .1 ∙ left-none (zoneOf (at-start .args .first) ((at-start .args .ats) .now) ((at-start .args .offsets) .now)) (governing (map (ruleAt ((at-start .args .book) .now)) ((at-start .args .rules) .now))) ((at-start .args .end) .0) ((at-start .args .d) .0) (at-loop .loop .n) (omega (arith, (at-loop-test .loop-test .left)))))
+    let args = at-start .args in
+    let zoneOf-is = zoneOf (args .first) (args .ats .now) (args .offsets .now) in
+    let g = governing (map (ruleAt (args .book .now)) (args .rules .now)) in
+    left-first zoneOf-is g (args .end .0) (args .d .0) (sym
+    ((at-loop .loop .inv .1) ∙ left-none zoneOf-is g (args .end .0) (args .d .0) (at-loop .loop .n) (omega (arith, (at-loop-test .loop-test .left)))))
 
 pub reaches-spec : {M : Type 1} → statement M
 reaches-spec =

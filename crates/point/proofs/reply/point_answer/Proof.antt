@@ -38,7 +38,8 @@ returns : tie.Need-returns
 returns c =
     let at-tell-opened = c .before .before in
     let at-start = at-tell-opened .before .before .before .before .before .before .before .before .before .before .before .before .before in
-    let z = toZ-ofZ w64 (at-start .args .at) (at-start .fits .at) in lent-same (at-tell-opened .tell-opened .ensures) (ap (pointNumber ((at-start .args .book) .now)) z) (ap (pointAnswer ((at-start .args .book) .now)) z)
+    let z = toZ-ofZ w64 (at-start .args .at) (at-start .fits .at) in
+    lent-same (at-tell-opened .tell-opened .ensures) (ap (pointNumber (at-start .args .book .now)) z) (ap (pointAnswer (at-start .args .book .now)) z)
 
 pub point-answer-spec : {M : Type 1} → statement M
 point-answer-spec =

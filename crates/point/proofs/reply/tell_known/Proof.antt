@@ -36,7 +36,16 @@ returns c =
     let at-if1 = at-refused .before in
     let at-count-events = at-if1 .before in
     let at-start = at-count-events .before .before .before .before .before .before .before .before .before .before in
-    let os = (found (zoneOf (at-start .args .first) ((at-start .args .ats) .now) ((at-start .args .offsets) .now)) (map (eventAt ((at-start .args .book) .now)) ((at-start .args .events) .now)) ((at-start .args .g) .start .at .0) ((at-start .args .g) .end .at .0)) in let x : Shown = (shown (zoneOf (at-start .args .first) ((at-start .args .ats) .now) ((at-start .args .offsets) .now)) (map (eventAt ((at-start .args .book) .now)) ((at-start .args .events) .now)) (heldBy ((at-start .args .book) .now) (at-start .args .g))) in let e = (at-count-events .count-events .ensures) .0 in lent-reply (lent-short (encodeAll (shownForms ((at-start .args .g) .start .at .0) ((at-start .args .g) .end .at .0) x)) _ refl (omega (arith, (at-if1 .if1 .taken), e, shown-length ((at-start .args .g) .start .at .0) ((at-start .args .g) .end .at .0) x, length-sorted os))) (at-refused .refused .ensures)
+    let start-g-at0 = at-start .args .g .start .at .0 in
+    let start-g-end-at0 = at-start .args .g .end .at .0 in
+    let args = at-start .args in
+    let zoneOf-is = zoneOf (args .first) (args .ats .now) (args .offsets .now) in
+    let map-is = map (eventAt (args .book .now)) (args .events .now) in
+    let os = found zoneOf-is map-is start-g-at0 start-g-end-at0 in
+    let x : Shown = shown zoneOf-is map-is (heldBy (args .book .now) (args .g)) in
+    let e = (at-count-events .count-events .ensures) .0 in
+    lent-reply (lent-short (encodeAll (shownForms start-g-at0 start-g-end-at0 x)) _ refl
+    (omega (arith, (at-if1 .if1 .taken), e, shown-length start-g-at0 start-g-end-at0 x, length-sorted os))) (at-refused .refused .ensures)
 
 widest-requires : tie.Need-widest-requires
 widest-requires c κs = search needs
@@ -56,7 +65,13 @@ put-events-requires c κs =
     let at-if1 = at-put-phase .before .before .before .before in
     let at-count-events = at-if1 .before in
     let at-start = at-count-events .before .before .before .before .before .before .before .before .before .before in
-    let e = (at-count-events .count-events .ensures) .0 in ((at-start .pre) .0, (at-start .pre) .1, (at-start .pre) .2, omega (arith, e, (at-if1 .if1 .left), (at-put-phase .put-phase .ensures) .behind, (at-put-phase .put-phase .ensures) .kept))
+    let e = (at-count-events .count-events .ensures) .0 in (
+      (at-start .pre .0),
+      (at-start .pre .1),
+      (at-start .pre .2),
+      omega
+          (arith, e, (at-if1 .if1 .left), (at-put-phase .put-phase .ensures .behind), (at-put-phase .put-phase .ensures .kept)),
+    )
 
 answered-requires : tie.Need-answered-requires
 answered-requires c κs = search needs
@@ -74,7 +89,21 @@ returns-2 c =
     let at-if1 = at-widest .before in
     let at-count-events = at-if1 .before in
     let at-start = at-count-events .before .before .before .before .before .before .before .before .before .before in
-    let os = (found (zoneOf (at-start .args .first) ((at-start .args .ats) .now) ((at-start .args .offsets) .now)) (map (eventAt ((at-start .args .book) .now)) ((at-start .args .events) .now)) ((at-start .args .g) .start .at .0) ((at-start .args .g) .end .at .0)) in let x : Shown = (shown (zoneOf (at-start .args .first) ((at-start .args .ats) .now) ((at-start .args .offsets) .now)) (map (eventAt ((at-start .args .book) .now)) ((at-start .args .events) .now)) (heldBy ((at-start .args .book) .now) (at-start .args .g))) in let e = (at-count-events .count-events .ensures) .0 in let n : (at-count-events .count-events .result) ≡ length (x .events) = omega (arith, e, length-sorted os) in let w = shown-put ((at-start .args .g) .start .at .0) ((at-start .args .g) .end .at .0) x n (ap phaseOf (at-phase-of .phase-of .ensures) ∙ ap (λ (u : Uncertainty). headForm ((at-start .args .g) .start .at .0) ((at-start .args .g) .end .at .0) (heldBy ((at-start .args .book) .now) (at-start .args .g)) u (at-count-events .count-events .result)) (at-widest .widest .ensures)) (at-put-phase .put-phase .ensures) (at-put-events .put-events .ensures) (omega (arith, e, (at-if1 .if1 .left))) in lent-reply (lent-written (encodeAll (shownForms ((at-start .args .g) .start .at .0) ((at-start .args .g) .end .at .0) x)) _ refl (omega (arith, e, (at-if1 .if1 .left), w .many)) (w .same) (omega (arith, w .behind, w .many))) (at-answered .answered .ensures)
+    let start-g-at0 = at-start .args .g .start .at .0 in
+    let start-g-end-at0 = at-start .args .g .end .at .0 in
+    let args = at-start .args in
+    let zoneOf-is = zoneOf (args .first) (args .ats .now) (args .offsets .now) in
+    let map-is = map (eventAt (args .book .now)) (args .events .now) in
+    let heldBy-is = heldBy (args .book .now) (args .g) in
+    let os = found zoneOf-is map-is start-g-at0 start-g-end-at0 in
+    let x : Shown = shown zoneOf-is map-is heldBy-is in
+    let e = (at-count-events .count-events .ensures) .0 in
+    let n : (at-count-events .count-events .result) ≡ length (x .events) = omega (arith, e, length-sorted os) in
+    let w = shown-put start-g-at0 start-g-end-at0 x n (ap phaseOf (at-phase-of .phase-of .ensures) ∙ ap
+    (λ (u : Uncertainty). headForm start-g-at0 start-g-end-at0 heldBy-is u (at-count-events .count-events .result)) (at-widest .widest .ensures))
+    (at-put-phase .put-phase .ensures) (at-put-events .put-events .ensures) (omega (arith, e, (at-if1 .if1 .left))) in
+    lent-reply (lent-written (encodeAll (shownForms start-g-at0 start-g-end-at0 x)) _ refl (omega (arith, e, (at-if1 .if1 .left), w .many)) (w .same)
+    (omega (arith, w .behind, w .many))) (at-answered .answered .ensures)
 
 pub tell-known-spec : {M : Type 1} → statement M
 tell-known-spec =

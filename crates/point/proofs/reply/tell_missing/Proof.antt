@@ -15,7 +15,10 @@ returns c =
     let at-refused = c in
     let at-if1 = at-refused .before in
     let at-start = at-if1 .before .before in
-    subst (Lent 0 (encode (point (missingOf ((at-start .args .t) .0) (at-start .args .c)))) _ _) (sym (at-refused .refused .ensures)) (lent-short (encode (point (missingOf ((at-start .args .t) .0) (at-start .args .c)))) _ refl (omega (arith, (at-if1 .if1 .taken), (encode-length (point (missingOf ((at-start .args .t) .0) (at-start .args .c))) tt))))
+    let pointed = point (missingOf (at-start .args .t .0) (at-start .args .c)) in
+    let record-bytes = encode pointed in
+    subst (Lent 0 record-bytes _ _) (sym (at-refused .refused .ensures))
+    (lent-short record-bytes _ refl (omega (arith, (at-if1 .if1 .taken), (encode-length pointed tt))))
 
 put-missing-requires : tie.Need-put-missing-requires
 put-missing-requires c κs =
@@ -33,7 +36,12 @@ returns-2 c =
     let at-put-missing = at-answered .before .before .before in
     let at-if1 = at-put-missing .before .before in
     let at-start = at-if1 .before .before in
-    subst (Lent 0 (encode (point (missingOf ((at-start .args .t) .0) (at-start .args .c)))) _ _) (sym (at-answered .answered .ensures)) (lent-written (encode (point (missingOf ((at-start .args .t) .0) (at-start .args .c)))) _ refl (omega (arith, (at-if1 .if1 .left), (encode-length (point (missingOf ((at-start .args .t) .0) (at-start .args .c))) tt))) ((at-put-missing .put-missing .ensures) .same) (omega (arith, (at-put-missing .put-missing .ensures) .behind, (encode-length (point (missingOf ((at-start .args .t) .0) (at-start .args .c))) tt))))
+    let pointed = point (missingOf (at-start .args .t .0) (at-start .args .c)) in
+    let record-long = encode-length pointed tt in
+    let record-bytes = encode pointed in
+    subst (Lent 0 record-bytes _ _) (sym (at-answered .answered .ensures)) (lent-written record-bytes _ refl
+    (omega (arith, (at-if1 .if1 .left), record-long)) (at-put-missing .put-missing .ensures .same)
+    (omega (arith, (at-put-missing .put-missing .ensures .behind), record-long)))
 
 pub tell-missing-spec : {M : Type 1} → statement M
 tell-missing-spec =

@@ -13,25 +13,29 @@ slice-aggregate-tell-venue : tie.Need-slice-aggregate-tell-venue
 slice-aggregate-tell-venue c =
     let at-opened2 = c .before .before .before .before .before .before in
     let at-start = at-opened2 .before .before .before .before .before .before .before .before in
-    sym (length-take-le _ _ (ats-in (at-start .pre) (opened-venue ((at-start .args .book) .now) _ (sym ((at-opened2 .opened2 .given) .1) ∙ (at-start .pre) .answer))))
+    sym (length-take-le _ _
+    (ats-in (at-start .pre) (opened-venue (at-start .args .book .now) _ (sym (at-opened2 .opened2 .given .1) ∙ (at-start .pre) .answer))))
 
 slice-aggregate-tell-venue-2 : tie.Need-slice-aggregate-tell-venue-2
 slice-aggregate-tell-venue-2 c =
     let at-opened2 = c .before .before .before .before .before .before .before in
     let at-start = at-opened2 .before .before .before .before .before .before .before .before in
-    sym (length-take-le _ _ (offsets-in (at-start .pre) (opened-venue ((at-start .args .book) .now) _ (sym ((at-opened2 .opened2 .given) .1) ∙ (at-start .pre) .answer))))
+    sym (length-take-le _ _
+    (offsets-in (at-start .pre) (opened-venue (at-start .args .book .now) _ (sym (at-opened2 .opened2 .given .1) ∙ (at-start .pre) .answer))))
 
 slice-aggregate-tell-venue-3 : tie.Need-slice-aggregate-tell-venue-3
 slice-aggregate-tell-venue-3 c =
     let at-opened2 = c .before .before .before .before .before .before .before .before in
     let at-start = at-opened2 .before .before .before .before .before .before .before .before in
-    sym (length-take-le _ _ (rules-in (at-start .pre) (opened-venue ((at-start .args .book) .now) _ (sym ((at-opened2 .opened2 .given) .1) ∙ (at-start .pre) .answer))))
+    sym (length-take-le _ _
+    (rules-in (at-start .pre) (opened-venue (at-start .args .book .now) _ (sym (at-opened2 .opened2 .given .1) ∙ (at-start .pre) .answer))))
 
 slice-aggregate-tell-venue-4 : tie.Need-slice-aggregate-tell-venue-4
 slice-aggregate-tell-venue-4 c =
     let at-opened2 = c .before .before .before .before .before .before .before .before .before in
     let at-start = at-opened2 .before .before .before .before .before .before .before .before in
-    sym (length-take-le _ _ (events-in (at-start .pre) (opened-venue ((at-start .args .book) .now) _ (sym ((at-opened2 .opened2 .given) .1) ∙ (at-start .pre) .answer))))
+    sym (length-take-le _ _
+    (events-in (at-start .pre) (opened-venue (at-start .args .book .now) _ (sym (at-opened2 .opened2 .given .1) ∙ (at-start .pre) .answer))))
 
 tell-venue-requires : tie.Need-tell-venue-requires
 tell-venue-requires c κs =
@@ -53,7 +57,9 @@ returns-2 c =
     let at-asked-at = at-enum-told2 .before .before in
     let at-enum-told = at-asked-at .before in
     let at-start = at-enum-told .before .before .before .before .before .before .before .before in
-    close-outside ((at-start .args .book) .now) (at-start .args .at) (opened-empty ((at-start .args .book) .now) (sym ((at-enum-told .enum-told .given) .1) ∙ (at-start .pre) .answer) .0) (asked-outside _ (at-start .fits .at) (at-asked-at .asked-at .ensures) ((at-enum-told2 .enum-told2 .given) .1)) (at-refused2 .refused2 .ensures)
+    close-outside (at-start .args .book .now) (at-start .args .at)
+    (opened-empty (at-start .args .book .now) (sym (at-enum-told .enum-told .given .1) ∙ (at-start .pre) .answer) .0)
+    (asked-outside _ (at-start .fits .at) (at-asked-at .asked-at .ensures) (at-enum-told2 .enum-told2 .given .1)) (at-refused2 .refused2 .ensures)
 
 returns-3 : tie.Need-returns-3
 returns-3 c =
@@ -62,7 +68,9 @@ returns-3 c =
     let at-asked-at = at-t .before .before in
     let at-enum-told = at-asked-at .before in
     let at-start = at-enum-told .before .before .before .before .before .before .before .before in
-    close-empty ((at-start .args .book) .now) (at-start .args .at) (asked-in _ (at-start .fits .at) (at-asked-at .asked-at .ensures) ((at-t .t .given) .1)) (sym ((at-enum-told .enum-told .given) .1) ∙ (at-start .pre) .answer) (at-tell-missing .tell-missing .ensures)
+    close-empty (at-start .args .book .now) (at-start .args .at)
+    (asked-in _ (at-start .fits .at) (at-asked-at .asked-at .ensures) (at-t .t .given .1))
+    (sym (at-enum-told .enum-told .given .1) ∙ (at-start .pre) .answer) (at-tell-missing .tell-missing .ensures)
 
 returns-4 : tie.Need-returns-4
 returns-4 c =
@@ -71,7 +79,9 @@ returns-4 c =
     let at-asked-at2 = at-enum-told3 .before .before in
     let at-opened2 = at-asked-at2 .before .before in
     let at-start = at-opened2 .before .before .before .before .before .before .before .before in
-    close-outside ((at-start .args .book) .now) (at-start .args .at) ((opened-venue ((at-start .args .book) .now) _ (sym ((at-opened2 .opened2 .given) .1) ∙ (at-start .pre) .answer)) .accepted) (asked-outside _ (at-start .fits .at) (at-asked-at2 .asked-at2 .ensures) ((at-enum-told3 .enum-told3 .given) .1)) (at-refused3 .refused3 .ensures)
+    close-outside (at-start .args .book .now) (at-start .args .at)
+    ((opened-venue (at-start .args .book .now) _ (sym (at-opened2 .opened2 .given .1) ∙ (at-start .pre) .answer)) .accepted)
+    (asked-outside _ (at-start .fits .at) (at-asked-at2 .asked-at2 .ensures) (at-enum-told3 .enum-told3 .given .1)) (at-refused3 .refused3 .ensures)
 
 returns-5 : tie.Need-returns-5
 returns-5 c =
@@ -80,7 +90,10 @@ returns-5 c =
     let at-asked-at2 = at-t2 .before .before in
     let at-opened2 = at-asked-at2 .before .before in
     let at-start = at-opened2 .before .before .before .before .before .before .before .before in
-    close-venue ((at-start .args .book) .now) (at-start .args .at) (asked-in _ (at-start .fits .at) (at-asked-at2 .asked-at2 .ensures) ((at-t2 .t2 .given) .1)) (opened-venue ((at-start .args .book) .now) _ (sym ((at-opened2 .opened2 .given) .1) ∙ (at-start .pre) .answer)) _ (front-values (at-start .pre) (opened-venue ((at-start .args .book) .now) _ (sym ((at-opened2 .opened2 .given) .1) ∙ (at-start .pre) .answer))) (at-tell-venue .tell-venue .ensures)
+    let known = opened-venue (at-start .args .book .now) _ (sym (at-opened2 .opened2 .given .1) ∙ (at-start .pre) .answer) in
+    close-venue (at-start .args .book .now) (at-start .args .at)
+    (asked-in _ (at-start .fits .at) (at-asked-at2 .asked-at2 .ensures) (at-t2 .t2 .given .1)) known _ (front-values (at-start .pre) known)
+    (at-tell-venue .tell-venue .ensures)
 
 pub tell-opened-spec : {M : Type 1} → statement M
 tell-opened-spec =

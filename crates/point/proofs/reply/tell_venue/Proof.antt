@@ -20,8 +20,13 @@ tell-known-requires : tie.Need-tell-known-requires
 tell-known-requires c κs =
     let at-g = c .before .before in
     let at-point = at-g .before .before in
-    let at-start = at-point .before .before .before .before .before .before .before .before .before in
-    ((at-start .pre) .zone, (at-start .pre) .events-listed, (at-start .pre) .few, subst (Placed ((at-start .args .book) .now)) ((at-g .g .given) .1) ((at-point .point .ensures) .1))
+    let at-start = at-point .before .before .before .before .before .before .before .before .before in (
+      (at-start .pre .zone),
+      (at-start .pre .events-listed),
+      (at-start .pre .few),
+      subst (Placed (at-start .args .book .now)) (at-g .g .given .1)
+          (at-point .point .ensures .1),
+    )
 
 returns : tie.Need-returns
 returns c =
@@ -29,7 +34,11 @@ returns c =
     let at-enum-told = at-tell-missing .before .before in
     let at-point = at-enum-told .before .before in
     let at-start = at-point .before .before .before .before .before .before .before .before .before in
-    lent-same (at-tell-missing .tell-missing .ensures) refl (one-form _ ∙ ap ((λ (o : Option Held). encodeAll (toldHeld (valuesAt ((at-start .args .book) .now) (at-start .args .h) ((at-start .args .ats) .now) ((at-start .args .offsets) .now) ((at-start .args .rules) .now) ((at-start .args .events) .now)) (Between ((at-start .args .h) .start) ((at-start .args .h) .end)) ((at-start .args .t) .0) o))) (ap (held ((at-start .args .book) .now)) (sym ((at-enum-told .enum-told .given) .1)) ∙ (at-point .point .ensures) .0))
+    let args = at-start .args in
+    lent-same (at-tell-missing .tell-missing .ensures) refl (one-form _ ∙ ap (λ (o : Option Held). encodeAll (toldHeld
+    (valuesAt (args .book .now) (args .h) (args .ats .now) (args .offsets .now) (args .rules .now) (args .events .now))
+    (Between (args .h .start) (args .h .end)) (args .t .0) o))
+    (ap (held (args .book .now)) (sym (at-enum-told .enum-told .given .1)) ∙ (at-point .point .ensures) .0))
 
 returns-2 : tie.Need-returns-2
 returns-2 c =
@@ -37,7 +46,11 @@ returns-2 c =
     let at-g = at-tell-known .before .before .before in
     let at-point = at-g .before .before in
     let at-start = at-point .before .before .before .before .before .before .before .before .before in
-    lent-same (at-tell-known .tell-known .ensures) refl (ap ((λ (o : Option Held). encodeAll (toldHeld (valuesAt ((at-start .args .book) .now) (at-start .args .h) ((at-start .args .ats) .now) ((at-start .args .offsets) .now) ((at-start .args .rules) .now) ((at-start .args .events) .now)) (Between ((at-start .args .h) .start) ((at-start .args .h) .end)) ((at-start .args .t) .0) o))) (ap (held ((at-start .args .book) .now)) (sym ((at-g .g .given) .1)) ∙ (at-point .point .ensures) .0))
+    let args = at-start .args in
+    lent-same (at-tell-known .tell-known .ensures) refl (ap (λ (o : Option Held). encodeAll (toldHeld
+    (valuesAt (args .book .now) (args .h) (args .ats .now) (args .offsets .now) (args .rules .now) (args .events .now))
+    (Between (args .h .start) (args .h .end)) (args .t .0) o))
+    (ap (held (args .book .now)) (sym (at-g .g .given .1)) ∙ (at-point .point .ensures) .0))
 
 pub tell-venue-spec : {M : Type 1} → statement M
 tell-venue-spec =

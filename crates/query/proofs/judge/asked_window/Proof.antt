@@ -61,7 +61,8 @@ returns-4 c =
     let at-a = at-asked-at2 .before .before in
     let at-asked-at = at-a .before .before in
     let at-start = at-asked-at .before in
-    end-outside _ _ ((asked-in _ (at-start .fits .start) (at-asked-at .asked-at .ensures) ((at-a .a .given) .1)) .1) (asked-outside _ (at-start .fits .end) (at-asked-at2 .asked-at2 .ensures) ((at-enum-told2 .enum-told2 .given) .1))
+    end-outside _ _ ((asked-in _ (at-start .fits .start) (at-asked-at .asked-at .ensures) (at-a .a .given .1)) .1)
+    (asked-outside _ (at-start .fits .end) (at-asked-at2 .asked-at2 .ensures) (at-enum-told2 .enum-told2 .given .1))
 
 returns-5 : tie.Need-returns-5
 returns-5 c =

@@ -15,7 +15,8 @@ returns-2 c =
     let at-get2 = c .before in
     let start = at-get2 .before .before .before in
     let args = start .args in
-    framed-at-once (args .bytes .now) (args .at) (args .kind) (args .size) _ _ (start .pre .0) (at-get2 .before .if1 .left) (at-get2 .get2 .ensures) (c .get22 .ensures) (omega arith) (omega arith)
+    framed-at-once (args .bytes .now) (args .at) (args .kind) (args .size) _ _ (start .pre .0) (at-get2 .before .if1 .left) (at-get2 .get2 .ensures)
+    (c .get22 .ensures) (omega arith) (omega arith)
 
 pub framed-spec : {M : Type 1} → statement M
 framed-spec =

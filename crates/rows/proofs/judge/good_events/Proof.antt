@@ -34,8 +34,12 @@ add-place c = omega (arith, event-holds _ _ (good-here c))
 loop-again : tie.Need-loop-again Inv-loop μ-loop
 loop-again c =
     let at-loop = c .before .before .before in
-    let more = c .before .before .loop-test .taken in
-    (at-loop .loop .inv .0 ∙ events-on _ _ _ (omega (arith, more)) (good-here c) ∙ ap (goodEvents _ _) (omega (arith, more)), event-holds _ _ (good-here c), omega (arith, more))
+    let more = c .before .before .loop-test .taken in (
+      at-loop .loop .inv .0 ∙ events-on _ _ _ (omega (arith, more)) (good-here c) ∙ ap (goodEvents _ _) (omega (arith, more)),
+      event-holds _ _
+          (good-here c),
+      omega (arith, more),
+    )
 
 returns-2 : tie.Need-returns-2 Inv-loop μ-loop
 returns-2 c = let at-loop = c .before in sym (at-loop .loop .inv .0 ∙ events-none _ _ _ (omega (arith, c .loop-test .left)))

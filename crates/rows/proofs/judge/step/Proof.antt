@@ -46,8 +46,8 @@ returns-2 c =
     let at-if1 = at-signed8 .before in
     let start = at-if1 .before .before .before in
     let args = start .args in
-    miscounted-phase (args .marks) (args .bytes .now) (args .at) (args .least) (start .pre) (phase-here at-if1) _ (at-signed8 .signed8 .ensures) (at-if2 .if2 .left) _ (at-get4 .get4 .ensures)
-    (sym (at-events .good-events .ensures) ∙ not-true _ (c .if3 .taken))
+    miscounted-phase (args .marks) (args .bytes .now) (args .at) (args .least) (start .pre) (phase-here at-if1) _ (at-signed8 .signed8 .ensures)
+    (at-if2 .if2 .left) _ (at-get4 .get4 .ensures) (sym (at-events .good-events .ensures) ∙ not-true _ (c .if3 .taken))
 
 returns-3 : tie.Need-returns-3
 returns-3 c =
@@ -59,8 +59,8 @@ returns-3 c =
     let at-if1 = at-signed8 .before in
     let start = at-if1 .before .before .before in
     let args = start .args in
-    phase-onward (args .marks) (args .bytes .now) (args .at) (args .least) (start .pre) (phase-here at-if1) _ (at-signed8 .signed8 .ensures) (at-if2 .if2 .left) _ (at-get4 .get4 .ensures)
-    (sym (at-events .good-events .ensures) ∙ not-false _ (at-if3 .if3 .left)) _ (c .signed82 .ensures)
+    phase-onward (args .marks) (args .bytes .now) (args .at) (args .least) (start .pre) (phase-here at-if1) _ (at-signed8 .signed8 .ensures)
+    (at-if2 .if2 .left) _ (at-get4 .get4 .ensures) (sym (at-events .good-events .ensures) ∙ not-false _ (at-if3 .if3 .left)) _ (c .signed82 .ensures)
 
 returns-4 : tie.Need-returns-4
 returns-4 c =
@@ -69,7 +69,8 @@ returns-4 c =
     let at-if1 = at-if4 .before .before in
     let start = at-if1 .before .before .before in
     let args = start .args in
-    early-gap (args .marks) (args .bytes .now) (args .at) (args .least) (start .pre) (no-phase at-if1) (gap-here at-if4) _ (at-signed8 .signed83 .ensures) (c .if5 .taken)
+    early-gap (args .marks) (args .bytes .now) (args .at) (args .least) (start .pre) (no-phase at-if1) (gap-here at-if4) _
+    (at-signed8 .signed83 .ensures) (c .if5 .taken)
 
 returns-5 : tie.Need-returns-5
 returns-5 c =
@@ -79,7 +80,8 @@ returns-5 c =
     let at-if1 = at-if4 .before .before in
     let start = at-if1 .before .before .before in
     let args = start .args in
-    gap-onward (args .marks) (args .bytes .now) (args .at) (args .least) (start .pre) (no-phase at-if1) (gap-here at-if4) _ (at-signed8 .signed83 .ensures) (at-if5 .if5 .left) _ (c .signed84 .ensures)
+    gap-onward (args .marks) (args .bytes .now) (args .at) (args .least) (start .pre) (no-phase at-if1) (gap-here at-if4) _
+    (at-signed8 .signed83 .ensures) (at-if5 .if5 .left) _ (c .signed84 .ensures)
 
 returns-6 : tie.Need-returns-6
 returns-6 c =
@@ -97,7 +99,8 @@ returns-7 c =
     let at-if1 = at-if4 .before .before in
     let start = at-if1 .before .before .before in
     let args = start .args in
-    no-mark (args .marks) (args .bytes .now) (args .at) (args .least) (start .pre) (no-phase at-if1) (no-gap at-if4) (not-false _ (at-if6 .if6 .left)) (sym (at-framed .framed .ensures) ∙ not-true _ (c .if7 .taken))
+    no-mark (args .marks) (args .bytes .now) (args .at) (args .least) (start .pre) (no-phase at-if1) (no-gap at-if4) (not-false _ (at-if6 .if6 .left))
+    (sym (at-framed .framed .ensures) ∙ not-true _ (c .if7 .taken))
 
 returns-8 : tie.Need-returns-8
 returns-8 c =
@@ -107,7 +110,8 @@ returns-8 c =
     let at-if1 = at-if4 .before .before in
     let start = at-if1 .before .before .before in
     let args = start .args in
-    mark-onward (args .marks) (args .bytes .now) (args .at) (args .least) (start .pre) (no-phase at-if1) (no-gap at-if4) (not-false _ (at-if6 .if6 .left)) (sym (at-framed .framed .ensures) ∙ not-false _ (c .if7 .left))
+    mark-onward (args .marks) (args .bytes .now) (args .at) (args .least) (start .pre) (no-phase at-if1) (no-gap at-if4)
+    (not-false _ (at-if6 .if6 .left)) (sym (at-framed .framed .ensures) ∙ not-false _ (c .if7 .left))
 
 pub step-spec : {M : Type 1} → statement M
 step-spec =

@@ -10,7 +10,8 @@ returns c =
     let at-to = at-phase .before in
     let at-from = at-to .before in
     let args = at-from .before .before .args in
-    phase-made (args .bytes .now) (args .at) _ _ _ _ _ (at-from .signed8 .ensures) (at-to .signed82 .ensures) (at-phase .get1 .ensures) (at-evidence .get2 .ensures) (c .get4 .ensures)
+    phase-made (args .bytes .now) (args .at) _ _ _ _ _ (at-from .signed8 .ensures) (at-to .signed82 .ensures) (at-phase .get1 .ensures)
+    (at-evidence .get2 .ensures) (c .get4 .ensures)
 
 pub phase-at-spec : {M : Type 1} → statement M
 phase-at-spec =

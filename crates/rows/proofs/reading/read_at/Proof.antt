@@ -41,8 +41,8 @@ returns-4 c =
     let at-if1 = at-match .before .before in
     let start = at-if1 .before .before in
     let k = at-match .before .get2 .ensures in
-    rw (c .get22 .ensures)
-    (here-mark (start .args .bytes .now) (start .args .at) (start .pre) (at-if1 .if1 .left) (λ e. at-match .match .rest .0 .1 (k ∙ e)) (λ e. at-match .match .rest .1 (k ∙ e)))
+    rw (c .get22 .ensures) (here-mark (start .args .bytes .now) (start .args .at) (start .pre) (at-if1 .if1 .left)
+    (λ e. at-match .match .rest .0 .1 (k ∙ e)) (λ e. at-match .match .rest .1 (k ∙ e)))
 
 pub read-at-spec : {M : Type 1} → statement M
 read-at-spec =

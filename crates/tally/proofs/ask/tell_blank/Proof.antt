@@ -19,7 +19,9 @@ returns c =
     let at-refused = c in
     let at-if1 = at-refused .before in
     let at-start = at-if1 .before .before .before .before in
-    tally-long (rawBlank ((at-start .args .start) .0) ((at-start .args .end) .0)) ((at-start .args .start) .0) ((at-start .args .end) .0) (omega (arith, (at-if1 .if1 .taken))) ((at-refused .refused .ensures))
+    let args = at-start .args in
+    tally-long (rawBlank (args .start .0) (args .end .0)) (args .start .0) (args .end .0) (omega (arith, (at-if1 .if1 .taken)))
+    (at-refused .refused .ensures)
 
 tally-size-requires : tie.Need-tally-size-requires
 tally-size-requires c κs =
@@ -36,7 +38,9 @@ returns-2 c =
     let at-tally-size = at-if2 .before in
     let at-if1 = at-tally-size .before in
     let at-start = at-if1 .before .before .before .before in
-    tally-short (rawBlank ((at-start .args .start) .0) ((at-start .args .end) .0)) ((at-start .args .start) .0) ((at-start .args .end) .0) (omega (arith, (at-if1 .if1 .left))) ((at-tally-size .tally-size .ensures)) (omega (arith, (at-if2 .if2 .taken))) ((at-refused2 .refused2 .ensures))
+    let args = at-start .args in
+    tally-short (rawBlank (args .start .0) (args .end .0)) (args .start .0) (args .end .0) (omega (arith, (at-if1 .if1 .left)))
+    (at-tally-size .tally-size .ensures) (omega (arith, (at-if2 .if2 .taken))) (at-refused2 .refused2 .ensures)
 
 put-blank-requires : tie.Need-put-blank-requires
 put-blank-requires c κs =
@@ -61,7 +65,9 @@ returns-3 c =
     let at-tally-size = at-if2 .before in
     let at-if1 = at-tally-size .before in
     let at-start = at-if1 .before .before .before .before in
-    tally-written (rawBlank ((at-start .args .start) .0) ((at-start .args .end) .0)) ((at-start .args .start) .0) ((at-start .args .end) .0) (omega (arith, (at-if1 .if1 .left))) ((at-tally-size .tally-size .ensures)) (omega (arith, (at-if2 .if2 .left))) ((at-put-blank .put-blank .ensures)) ((at-answered .answered .ensures))
+    let args = at-start .args in
+    tally-written (rawBlank (args .start .0) (args .end .0)) (args .start .0) (args .end .0) (omega (arith, (at-if1 .if1 .left)))
+    (at-tally-size .tally-size .ensures) (omega (arith, (at-if2 .if2 .left))) (at-put-blank .put-blank .ensures) (at-answered .answered .ensures)
 
 pub tell-blank-spec : {M : Type 1} → statement M
 tell-blank-spec =

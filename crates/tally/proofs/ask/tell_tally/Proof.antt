@@ -20,7 +20,9 @@ returns c =
     let at-refused = c in
     let at-if1 = at-refused .before in
     let at-start = at-if1 .before .before .before .before .before .before .before .before .before in
-    tally-long ((rawOf (valuesAt ((at-start .args .book) .now) ((at-start .args .h)) ((at-start .args .ats) .now) ((at-start .args .offsets) .now) ((at-start .args .rules) .now) ((at-start .args .events) .now)) ((at-start .args .start) .0) ((at-start .args .end) .0))) ((at-start .args .start) .0) ((at-start .args .end) .0) (omega (arith, (at-if1 .if1 .taken))) ((at-refused .refused .ensures))
+    let args = at-start .args in
+    tally-long (rawOf (valuesAt (args .book .now) (args .h) (args .ats .now) (args .offsets .now) (args .rules .now) (args .events .now))
+    (args .start .0) (args .end .0)) (args .start .0) (args .end .0) (omega (arith, (at-if1 .if1 .taken))) (at-refused .refused .ensures)
 
 tally-size-requires : tie.Need-tally-size-requires
 tally-size-requires c κs =
@@ -37,7 +39,10 @@ returns-2 c =
     let at-tally-size = at-if2 .before in
     let at-if1 = at-tally-size .before in
     let at-start = at-if1 .before .before .before .before .before .before .before .before .before in
-    tally-short ((rawOf (valuesAt ((at-start .args .book) .now) ((at-start .args .h)) ((at-start .args .ats) .now) ((at-start .args .offsets) .now) ((at-start .args .rules) .now) ((at-start .args .events) .now)) ((at-start .args .start) .0) ((at-start .args .end) .0))) ((at-start .args .start) .0) ((at-start .args .end) .0) (omega (arith, (at-if1 .if1 .left))) ((at-tally-size .tally-size .ensures)) (omega (arith, (at-if2 .if2 .taken))) ((at-refused2 .refused2 .ensures))
+    let args = at-start .args in
+    tally-short (rawOf (valuesAt (args .book .now) (args .h) (args .ats .now) (args .offsets .now) (args .rules .now) (args .events .now))
+    (args .start .0) (args .end .0)) (args .start .0) (args .end .0) (omega (arith, (at-if1 .if1 .left))) (at-tally-size .tally-size .ensures)
+    (omega (arith, (at-if2 .if2 .taken))) (at-refused2 .refused2 .ensures)
 
 put-tallies-requires : tie.Need-put-tallies-requires
 put-tallies-requires c κs =
@@ -62,7 +67,10 @@ returns-3 c =
     let at-tally-size = at-if2 .before in
     let at-if1 = at-tally-size .before in
     let at-start = at-if1 .before .before .before .before .before .before .before .before .before in
-    tally-written ((rawOf (valuesAt ((at-start .args .book) .now) ((at-start .args .h)) ((at-start .args .ats) .now) ((at-start .args .offsets) .now) ((at-start .args .rules) .now) ((at-start .args .events) .now)) ((at-start .args .start) .0) ((at-start .args .end) .0))) ((at-start .args .start) .0) ((at-start .args .end) .0) (omega (arith, (at-if1 .if1 .left))) ((at-tally-size .tally-size .ensures)) (omega (arith, (at-if2 .if2 .left))) ((at-put-tallies .put-tallies .ensures)) ((at-answered .answered .ensures))
+    let args = at-start .args in
+    tally-written (rawOf (valuesAt (args .book .now) (args .h) (args .ats .now) (args .offsets .now) (args .rules .now) (args .events .now))
+    (args .start .0) (args .end .0)) (args .start .0) (args .end .0) (omega (arith, (at-if1 .if1 .left))) (at-tally-size .tally-size .ensures)
+    (omega (arith, (at-if2 .if2 .left))) (at-put-tallies .put-tallies .ensures) (at-answered .answered .ensures)
 
 pub tell-tally-spec : {M : Type 1} → statement M
 tell-tally-spec =

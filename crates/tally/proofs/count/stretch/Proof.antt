@@ -53,7 +53,12 @@ sub-renew c =
     let at-part2 = at-shift2 .before in
     let at-rows = at-part2 .before .before in
     let at-start = at-rows .before .before .before .before .before .before .before in
-    omega (arith, coming-turn (at-start .pre) ((at-rows .rows .inv)) ((at-part2 .part2 .ensures)) ((at-shift2 .shift2 .ensures)) (omega (arith, (at-if1 .if1 .left))), (at-row-end .row-end .ensures))
+    omega (
+      arith,
+      coming-turn (at-start .pre) (at-rows .rows .inv) (at-part2 .part2 .ensures) (at-shift2 .shift2 .ensures)
+          (omega (arith, (at-if1 .if1 .left))),
+      (at-row-end .row-end .ensures),
+    )
 
 renew-requires : tie.Need-renew-requires Inv-rows μ-rows
 renew-requires c κs = search needs
@@ -66,7 +71,12 @@ rows-less c =
     let at-part2 = at-shift2 .before in
     let at-rows = at-part2 .before .before in
     let at-start = at-rows .before .before .before .before .before .before .before in
-    omega (arith, coming-turn (at-start .pre) ((at-rows .rows .inv)) ((at-part2 .part2 .ensures)) ((at-shift2 .shift2 .ensures)) (omega (arith, (at-if1 .if1 .left))), (at-row-end .row-end .ensures))
+    omega (
+      arith,
+      coming-turn (at-start .pre) (at-rows .rows .inv) (at-part2 .part2 .ensures) (at-shift2 .shift2 .ensures)
+          (omega (arith, (at-if1 .if1 .left))),
+      (at-row-end .row-end .ensures),
+    )
 
 rows-again : tie.Need-rows-again Inv-rows μ-rows
 rows-again c =
@@ -77,7 +87,8 @@ rows-again c =
     let at-shift2 = at-if1 .before .before .before in
     let at-part2 = at-shift2 .before in
     let at-rows = at-part2 .before .before in
-    rolling-next ((at-rows .rows .inv)) ((at-part2 .part2 .ensures)) ((at-shift2 .shift2 .ensures)) (omega (arith, (at-if1 .if1 .left))) ((at-put-day .put-day .ensures)) ((at-row-end .row-end .ensures)) ((at-renew .renew .ensures))
+    rolling-next (at-rows .rows .inv) (at-part2 .part2 .ensures) (at-shift2 .shift2 .ensures) (omega (arith, (at-if1 .if1 .left)))
+    (at-put-day .put-day .ensures) (at-row-end .row-end .ensures) (at-renew .renew .ensures)
 
 same-length : tie.Need-same-length Inv-rows μ-rows
 same-length c =
@@ -92,7 +103,8 @@ returns c =
     let at-rows = at-part2 .before .before in
     let at-shift = at-rows .before .before .before in
     let at-part = at-shift .before in
-    counted ((at-rows .rows .inv)) ((at-part2 .part2 .ensures)) ((at-shift2 .shift2 .ensures)) (omega (arith, (at-if1 .if1 .taken))) ((at-part .part .ensures)) ((at-shift .shift .ensures))
+    counted (at-rows .rows .inv) (at-part2 .part2 .ensures) (at-shift2 .shift2 .ensures) (omega (arith, (at-if1 .if1 .taken)))
+    (at-part .part .ensures) (at-shift .shift .ensures)
 
 pub stretch-spec : {M : Type 1} → statement M
 stretch-spec =

@@ -26,7 +26,8 @@ returns c =
     let at-renew = at-renew2 .before .before .before .before in
     let at-row-end = at-renew .before .before .before in
     let at-start = at-row-end .before in
-    record { begins = refl; ends = (at-row-end .row-end .ensures); placed = refl; fresh-row = (at-renew .renew .ensures) ∙ ap (λ (n : ℕ). fresh (n - (at-start .args .start) .0)) ((at-row-end .row-end .ensures)); fresh-whole = (at-renew2 .renew2 .ensures) }
+    record
+    { begins = refl; ends = (at-row-end .row-end .ensures); placed = refl; fresh-row = (at-renew .renew .ensures) ∙ ap (λ (n : ℕ). fresh (n - (at-start .args .start) .0)) (at-row-end .row-end .ensures); fresh-whole = (at-renew2 .renew2 .ensures) }
 
 pub first-page-spec : {M : Type 1} → statement M
 first-page-spec =

@@ -48,7 +48,9 @@ stretch-requires c κs =
     let at-first-page = c .before .before .before in
     let at-earlier = at-first-page .before .before .before .before .before .before in
     let at-start = at-earlier .before .before .before .before .before .before .before .before .before in
-    venue-coming ((at-start .args .book) .now) (at-start .args .h) ((at-start .args .ats) .now) ((at-start .args .offsets) .now) ((at-start .args .rules) .now) ((at-start .args .events) .now) ((at-start .args .out) .now) ((at-start .pre) .1) ((at-start .pre) .2) ((at-start .pre) .3) (at-first-page .first-page .ensures) (at-earlier .earlier .ensures)
+    let args = at-start .args in
+    venue-coming (args .book .now) (args .h) (args .ats .now) (args .offsets .now) (args .rules .now) (args .events .now) (args .out .now)
+    (at-start .pre .1) (at-start .pre .2) (at-start .pre .3) (at-first-page .first-page .ensures) (at-earlier .earlier .ensures)
 
 sub-begin : tie.Need-sub-begin Inv-pieces μ-pieces
 sub-begin c = omega arith
@@ -63,7 +65,12 @@ pieces-holds c =
     let at-begin = c in
     let at-earlier2 = at-begin .before .before .before .before .before .before .before .before .before .before .before .before .before in
     let at-start = at-earlier2 .before .before .before .before .before .before .before .before .before .before .before in
-    ((at-begin .begin .ensures .0) .stands, walked-none ((at-start .args .book) .now) ((at-start .args .h) .first) ((at-start .args .ats) .now) ((at-start .args .offsets) .now) ((at-start .args .rules) .now) (at-earlier2 .earlier2 .result) _ _ _ _ _ _ _, (at-begin .begin .ensures .1))
+    let args = at-start .args in (
+      (at-begin .begin .ensures .0 .stands),
+      walked-none (args .book .now) (args .h .first) (args .ats .now) (args .offsets .now) (args .rules .now)
+          (at-earlier2 .earlier2 .result) _ _ _ _ _ _ _,
+      (at-begin .begin .ensures .1),
+    )
 
 here-requires : tie.Need-here-requires Inv-pieces μ-pieces
 here-requires c κs =
@@ -83,7 +90,10 @@ point-phase-requires c κs =
     let at-pieces = at-here .before .before in
     let at-earlier2 = at-pieces .before .before .before .before .before .before .before .before .before .before .before .before .before .before in
     let at-start = at-earlier2 .before .before .before .before .before .before .before .before .before .before .before in
-    ((come ((at-start .args .book) .now) ((at-start .args .h) .first) ((at-start .args .ats) .now) ((at-start .args .offsets) .now) ((at-start .args .rules) .now) (at-earlier2 .earlier2 .result) ((at-start .pre) .0 .zone) _ _ _ (at-pieces .pieces .inv .0) (at-here .here .ensures) ((at-q .q .given) .1)) .fits .listed, (come ((at-start .args .book) .now) ((at-start .args .h) .first) ((at-start .args .ats) .now) ((at-start .args .offsets) .now) ((at-start .args .rules) .now) (at-earlier2 .earlier2 .result) ((at-start .pre) .0 .zone) _ _ _ (at-pieces .pieces .inv .0) (at-here .here .ensures) ((at-q .q .given) .1)) .fits .point)
+    let args = at-start .args in
+    let comes = come (args .book .now) (args .h .first) (args .ats .now) (args .offsets .now) (args .rules .now) (at-earlier2 .earlier2 .result)
+    (at-start .pre .0 .zone) _ _ _ (at-pieces .pieces .inv .0) (at-here .here .ensures) (at-q .q .given .1) in
+    (comes .fits .listed, comes .fits .point)
 
 cast-stretch : tie.Need-cast-stretch Inv-pieces μ-pieces
 cast-stretch c = search needs
@@ -102,7 +112,19 @@ stretch-requires-2 c κs =
     let at-later = at-earlier2 .before in
     let at-earlier = at-later .before in
     let at-start = at-earlier .before .before .before .before .before .before .before .before .before in
-    walked-coming ((at-start .args .book) .now) ((at-start .args .h) .first) ((at-start .args .ats) .now) ((at-start .args .offsets) .now) ((at-start .args .rules) .now) (at-earlier2 .earlier2 .result) ((at-pieces .pieces .inv) .1) (come ((at-start .args .book) .now) ((at-start .args .h) .first) ((at-start .args .ats) .now) ((at-start .args .offsets) .now) ((at-start .args .rules) .now) (at-earlier2 .earlier2 .result) ((at-start .pre) .0 .zone) _ _ _ (at-pieces .pieces .inv .0) (at-here .here .ensures) ((at-q .q .given) .1)) (at-point-phase .point-phase .ensures) (rawOf (valuesAt ((at-start .args .book) .now) (at-start .args .h) ((at-start .args .ats) .now) ((at-start .args .offsets) .now) ((at-start .args .rules) .now) ((at-start .args .events) .now)) ((at-start .args .start) .0) ((at-start .args .end) .0)) (stretchOf (at-later2 .later2 .result) ((at-start .args .end) .0) unknown ∷ []) ((at-start .args .out) .now) (venue-standing ((at-start .args .book) .now) (at-start .args .h) ((at-start .args .ats) .now) ((at-start .args .offsets) .now) ((at-start .args .rules) .now) ((at-start .args .events) .now) ((at-start .args .out) .now) ((at-start .pre) .1) ((at-start .pre) .2) ((at-start .pre) .3) (at-first-page .first-page .ensures) (at-earlier .earlier .ensures) (at-stretch .stretch .ensures) (at-later .later .ensures) (at-earlier2 .earlier2 .ensures) (at-later2 .later2 .ensures) (at-begin .begin .ensures .0))
+    let start-offsets = at-start .args .offsets .now in
+    let start-rules = at-start .args .rules .now in
+    let args = at-start .args in
+    let standing = venue-standing (args .book .now) (args .h) (args .ats .now) start-offsets start-rules (args .events .now) (args .out .now)
+    (at-start .pre .1) (at-start .pre .2) (at-start .pre .3) (at-first-page .first-page .ensures) (at-earlier .earlier .ensures)
+    (at-stretch .stretch .ensures) (at-later .later .ensures) (at-earlier2 .earlier2 .ensures) (at-later2 .later2 .ensures)
+    (at-begin .begin .ensures .0) in
+    let comes = come (args .book .now) (args .h .first) (args .ats .now) start-offsets start-rules (at-earlier2 .earlier2 .result)
+    (at-start .pre .0 .zone) _ _ _ (at-pieces .pieces .inv .0) (at-here .here .ensures) (at-q .q .given .1) in
+    walked-coming (args .book .now) (args .h .first) (args .ats .now) start-offsets start-rules (at-earlier2 .earlier2 .result)
+    (at-pieces .pieces .inv .1) comes (at-point-phase .point-phase .ensures)
+    (rawOf (valuesAt (args .book .now) (args .h) (args .ats .now) start-offsets start-rules (args .events .now)) (args .start .0) (args .end .0))
+    (stretchOf (at-later2 .later2 .result) (args .end .0) unknown ∷ []) (args .out .now) standing
 
 behind-requires : tie.Need-behind-requires Inv-pieces μ-pieces
 behind-requires c κs =
@@ -111,7 +133,10 @@ behind-requires c κs =
     let at-pieces = at-here .before .before in
     let at-earlier2 = at-pieces .before .before .before .before .before .before .before .before .before .before .before .before .before .before in
     let at-start = at-earlier2 .before .before .before .before .before .before .before .before .before .before .before in
-    omega (arith, (come ((at-start .args .book) .now) ((at-start .args .h) .first) ((at-start .args .ats) .now) ((at-start .args .offsets) .now) ((at-start .args .rules) .now) (at-earlier2 .earlier2 .result) ((at-start .pre) .0 .zone) _ _ _ (at-pieces .pieces .inv .0) (at-here .here .ensures) ((at-q .q .given) .1)) .fits .point, good-rule ((at-start .args .book) .now) _ ((come ((at-start .args .book) .now) ((at-start .args .h) .first) ((at-start .args .ats) .now) ((at-start .args .offsets) .now) ((at-start .args .rules) .now) (at-earlier2 .earlier2 .result) ((at-start .pre) .0 .zone) _ _ _ (at-pieces .pieces .inv .0) (at-here .here .ensures) ((at-q .q .given) .1)) .fits .listed) .few)
+    let args = at-start .args in
+    let comes = come (args .book .now) (args .h .first) (args .ats .now) (args .offsets .now) (args .rules .now) (at-earlier2 .earlier2 .result)
+    (at-start .pre .0 .zone) _ _ _ (at-pieces .pieces .inv .0) (at-here .here .ensures) (at-q .q .given .1) in
+    omega (arith, comes .fits .point, good-rule (args .book .now) _ (comes .fits .listed) .few)
 
 pieces-less : tie.Need-pieces-less Inv-pieces μ-pieces
 pieces-less c =
@@ -122,7 +147,11 @@ pieces-less c =
     let at-pieces = at-here .before .before in
     let at-earlier2 = at-pieces .before .before .before .before .before .before .before .before .before .before .before .before .before .before in
     let at-start = at-earlier2 .before .before .before .before .before .before .before .before .before .before .before in
-    walked-less ((at-start .args .book) .now) ((at-start .args .h) .first) ((at-start .args .ats) .now) ((at-start .args .offsets) .now) ((at-start .args .rules) .now) (at-earlier2 .earlier2 .result) ((at-pieces .pieces .inv) .1) (come ((at-start .args .book) .now) ((at-start .args .h) .first) ((at-start .args .ats) .now) ((at-start .args .offsets) .now) ((at-start .args .rules) .now) (at-earlier2 .earlier2 .result) ((at-start .pre) .0 .zone) _ _ _ (at-pieces .pieces .inv .0) (at-here .here .ensures) ((at-q .q .given) .1)) (at-point-phase .point-phase .ensures) (at-behind .behind .ensures)
+    let args = at-start .args in
+    let comes = come (args .book .now) (args .h .first) (args .ats .now) (args .offsets .now) (args .rules .now) (at-earlier2 .earlier2 .result)
+    (at-start .pre .0 .zone) _ _ _ (at-pieces .pieces .inv .0) (at-here .here .ensures) (at-q .q .given .1) in
+    walked-less (args .book .now) (args .h .first) (args .ats .now) (args .offsets .now) (args .rules .now) (at-earlier2 .earlier2 .result)
+    (at-pieces .pieces .inv .1) comes (at-point-phase .point-phase .ensures) (at-behind .behind .ensures)
 
 pieces-again : tie.Need-pieces-again Inv-pieces μ-pieces
 pieces-again c =
@@ -134,7 +163,17 @@ pieces-again c =
     let at-pieces = at-here .before .before in
     let at-earlier2 = at-pieces .before .before .before .before .before .before .before .before .before .before .before .before .before .before in
     let at-start = at-earlier2 .before .before .before .before .before .before .before .before .before .before .before in
-    (stands-on ((at-start .args .book) .now) ((at-start .args .h) .first) ((at-start .args .ats) .now) ((at-start .args .offsets) .now) ((at-start .args .rules) .now) (at-earlier2 .earlier2 .result) (at-behind .behind .ensures) ((come ((at-start .args .book) .now) ((at-start .args .h) .first) ((at-start .args .ats) .now) ((at-start .args .offsets) .now) ((at-start .args .rules) .now) (at-earlier2 .earlier2 .result) ((at-start .pre) .0 .zone) _ _ _ (at-pieces .pieces .inv .0) (at-here .here .ensures) ((at-q .q .given) .1)) .stands), walked-next ((at-start .args .book) .now) ((at-start .args .h) .first) ((at-start .args .ats) .now) ((at-start .args .offsets) .now) ((at-start .args .rules) .now) (at-earlier2 .earlier2 .result) ((at-pieces .pieces .inv) .1) (come ((at-start .args .book) .now) ((at-start .args .h) .first) ((at-start .args .ats) .now) ((at-start .args .offsets) .now) ((at-start .args .rules) .now) (at-earlier2 .earlier2 .result) ((at-start .pre) .0 .zone) _ _ _ (at-pieces .pieces .inv .0) (at-here .here .ensures) ((at-q .q .given) .1)) (at-point-phase .point-phase .ensures) (at-stretch2 .stretch2 .ensures) (at-behind .behind .ensures), (at-pieces .pieces .inv .2))
+    let earlier2 = at-earlier2 .earlier2 .result in
+    let start-offsets = at-start .args .offsets .now in
+    let start-rules = at-start .args .rules .now in
+    let args = at-start .args in
+    let comes = come (args .book .now) (args .h .first) (args .ats .now) start-offsets start-rules earlier2 (at-start .pre .0 .zone) _ _ _
+    (at-pieces .pieces .inv .0) (at-here .here .ensures) (at-q .q .given .1) in (
+      stands-on (args .book .now) (args .h .first) (args .ats .now) start-offsets start-rules earlier2 (at-behind .behind .ensures) (comes .stands),
+      walked-next (args .book .now) (args .h .first) (args .ats .now) start-offsets start-rules earlier2 (at-pieces .pieces .inv .1) comes
+          (at-point-phase .point-phase .ensures) (at-stretch2 .stretch2 .ensures) (at-behind .behind .ensures),
+      (at-pieces .pieces .inv .2),
+    )
 
 enum-told : tie.Need-enum-told Inv-pieces μ-pieces
 enum-told c = search needs
@@ -146,7 +185,14 @@ turn-on-requires c κs =
     let at-pieces = at-here .before .before in
     let at-earlier2 = at-pieces .before .before .before .before .before .before .before .before .before .before .before .before .before .before in
     let at-start = at-earlier2 .before .before .before .before .before .before .before .before .before .before .before in
-    ((at-start .pre) .0 .zone, (at-start .pre) .0 .rules-listed, (at-pieces .pieces .inv .2), (shown ((at-start .args .book) .now) ((at-start .args .h) .first) ((at-start .args .ats) .now) ((at-start .args .offsets) .now) ((at-start .args .rules) .now) (at-earlier2 .earlier2 .result) ((at-start .pre) .0 .zone) _ _ _ (at-pieces .pieces .inv .0) (at-here .here .ensures) ((at-enum-told .enum-told .given) .1)))
+    let args = at-start .args in (
+      (at-start .pre .0 .zone),
+      (at-start .pre .0 .rules-listed),
+      (at-pieces .pieces .inv .2),
+      (shown (args .book .now) (args .h .first)
+          (args .ats .now) (args .offsets .now) (args .rules .now) (at-earlier2 .earlier2 .result) (at-start .pre .0 .zone) _ _ _
+          (at-pieces .pieces .inv .0) (at-here .here .ensures) (at-enum-told .enum-told .given .1)),
+    )
 
 enum-told-2 : tie.Need-enum-told-2 Inv-pieces μ-pieces
 enum-told-2 c = search needs
@@ -161,7 +207,11 @@ pieces-less-2 c =
     let at-pieces = at-turn-on .before .before .before .before .before .before .before in
     let at-earlier2 = at-pieces .before .before .before .before .before .before .before .before .before .before .before .before .before .before in
     let at-start = at-earlier2 .before .before .before .before .before .before .before .before .before .before .before in
-    turn-less ((at-start .args .book) .now) ((at-start .args .h) .first) ((at-start .args .ats) .now) ((at-start .args .offsets) .now) ((at-start .args .rules) .now) (at-earlier2 .earlier2 .result) (at-pieces .pieces .inv .1) (turned ((at-start .args .book) .now) ((at-start .args .h) .first) ((at-start .args .ats) .now) ((at-start .args .offsets) .now) ((at-start .args .rules) .now) (at-earlier2 .earlier2 .result) _ _ _ (at-turn-on .turn-on .ensures .0) ((at-next .next .given) .1))
+    let args = at-start .args in
+    let on = turned (args .book .now) (args .h .first) (args .ats .now) (args .offsets .now) (args .rules .now) (at-earlier2 .earlier2 .result) _ _ _
+    (at-turn-on .turn-on .ensures .0) (at-next .next .given .1) in
+    turn-less (args .book .now) (args .h .first) (args .ats .now) (args .offsets .now) (args .rules .now) (at-earlier2 .earlier2 .result)
+    (at-pieces .pieces .inv .1) on
 
 pieces-again-2 : tie.Need-pieces-again-2 Inv-pieces μ-pieces
 pieces-again-2 c =
@@ -170,7 +220,14 @@ pieces-again-2 c =
     let at-pieces = at-turn-on .before .before .before .before .before .before .before in
     let at-earlier2 = at-pieces .before .before .before .before .before .before .before .before .before .before .before .before .before .before in
     let at-start = at-earlier2 .before .before .before .before .before .before .before .before .before .before .before in
-    ((turned ((at-start .args .book) .now) ((at-start .args .h) .first) ((at-start .args .ats) .now) ((at-start .args .offsets) .now) ((at-start .args .rules) .now) (at-earlier2 .earlier2 .result) _ _ _ (at-turn-on .turn-on .ensures .0) ((at-next .next .given) .1)) .stands, turn-walked ((at-start .args .book) .now) ((at-start .args .h) .first) ((at-start .args .ats) .now) ((at-start .args .offsets) .now) ((at-start .args .rules) .now) (at-earlier2 .earlier2 .result) (at-pieces .pieces .inv .1) (turned ((at-start .args .book) .now) ((at-start .args .h) .first) ((at-start .args .ats) .now) ((at-start .args .offsets) .now) ((at-start .args .rules) .now) (at-earlier2 .earlier2 .result) _ _ _ (at-turn-on .turn-on .ensures .0) ((at-next .next .given) .1)), (at-turn-on .turn-on .ensures .1))
+    let args = at-start .args in
+    let on = turned (args .book .now) (args .h .first) (args .ats .now) (args .offsets .now) (args .rules .now) (at-earlier2 .earlier2 .result) _ _ _
+    (at-turn-on .turn-on .ensures .0) (at-next .next .given .1) in (
+      on .stands,
+      turn-walked (args .book .now) (args .h .first) (args .ats .now) (args .offsets .now) (args .rules .now)
+          (at-earlier2 .earlier2 .result) (at-pieces .pieces .inv .1) on,
+      (at-turn-on .turn-on .ensures .1),
+    )
 
 stretch-requires-3 : tie.Need-stretch-requires-3 Inv-pieces μ-pieces
 stretch-requires-3 c κs =
@@ -185,7 +242,17 @@ stretch-requires-3 c κs =
     let at-later = at-earlier2 .before in
     let at-earlier = at-later .before in
     let at-start = at-earlier .before .before .before .before .before .before .before .before .before in
-    done-coming ((at-start .args .book) .now) ((at-start .args .h) .first) ((at-start .args .ats) .now) ((at-start .args .offsets) .now) ((at-start .args .rules) .now) (at-earlier2 .earlier2 .result) ((at-pieces .pieces .inv) .1) (gone ((at-start .args .book) .now) ((at-start .args .h) .first) ((at-start .args .ats) .now) ((at-start .args .offsets) .now) ((at-start .args .rules) .now) (at-earlier2 .earlier2 .result) _ _ _ (at-turn-on .turn-on .ensures .0) ((at-enum-told2 .enum-told2 .given) .1)) (venue-standing ((at-start .args .book) .now) (at-start .args .h) ((at-start .args .ats) .now) ((at-start .args .offsets) .now) ((at-start .args .rules) .now) ((at-start .args .events) .now) ((at-start .args .out) .now) ((at-start .pre) .1) ((at-start .pre) .2) ((at-start .pre) .3) (at-first-page .first-page .ensures) (at-earlier .earlier .ensures) (at-stretch .stretch .ensures) (at-later .later .ensures) (at-earlier2 .earlier2 .ensures) (at-later2 .later2 .ensures) (at-begin .begin .ensures .0))
+    let start-offsets = at-start .args .offsets .now in
+    let start-rules = at-start .args .rules .now in
+    let args = at-start .args in
+    let standing = venue-standing (args .book .now) (args .h) (args .ats .now) start-offsets start-rules (args .events .now) (args .out .now)
+    (at-start .pre .1) (at-start .pre .2) (at-start .pre .3) (at-first-page .first-page .ensures) (at-earlier .earlier .ensures)
+    (at-stretch .stretch .ensures) (at-later .later .ensures) (at-earlier2 .earlier2 .ensures) (at-later2 .later2 .ensures)
+    (at-begin .begin .ensures .0) in
+    let none-left = gone (args .book .now) (args .h .first) (args .ats .now) start-offsets start-rules (at-earlier2 .earlier2 .result) _ _ _
+    (at-turn-on .turn-on .ensures .0) (at-enum-told2 .enum-told2 .given .1) in
+    done-coming (args .book .now) (args .h .first) (args .ats .now) start-offsets start-rules (at-earlier2 .earlier2 .result)
+    (at-pieces .pieces .inv .1) none-left standing
 
 finish-requires : tie.Need-finish-requires Inv-pieces μ-pieces
 finish-requires c κs =
@@ -201,7 +268,17 @@ finish-requires c κs =
     let at-later = at-earlier2 .before in
     let at-earlier = at-later .before in
     let at-start = at-earlier .before .before .before .before .before .before .before .before .before in
-    done-ending ((at-start .args .book) .now) ((at-start .args .h) .first) ((at-start .args .ats) .now) ((at-start .args .offsets) .now) ((at-start .args .rules) .now) (at-earlier2 .earlier2 .result) ((at-pieces .pieces .inv) .1) (gone ((at-start .args .book) .now) ((at-start .args .h) .first) ((at-start .args .ats) .now) ((at-start .args .offsets) .now) ((at-start .args .rules) .now) (at-earlier2 .earlier2 .result) _ _ _ (at-turn-on .turn-on .ensures .0) ((at-enum-told2 .enum-told2 .given) .1)) (venue-standing ((at-start .args .book) .now) (at-start .args .h) ((at-start .args .ats) .now) ((at-start .args .offsets) .now) ((at-start .args .rules) .now) ((at-start .args .events) .now) ((at-start .args .out) .now) ((at-start .pre) .1) ((at-start .pre) .2) ((at-start .pre) .3) (at-first-page .first-page .ensures) (at-earlier .earlier .ensures) (at-stretch .stretch .ensures) (at-later .later .ensures) (at-earlier2 .earlier2 .ensures) (at-later2 .later2 .ensures) (at-begin .begin .ensures .0)) (at-stretch3 .stretch3 .ensures)
+    let start-offsets = at-start .args .offsets .now in
+    let start-rules = at-start .args .rules .now in
+    let args = at-start .args in
+    let standing = venue-standing (args .book .now) (args .h) (args .ats .now) start-offsets start-rules (args .events .now) (args .out .now)
+    (at-start .pre .1) (at-start .pre .2) (at-start .pre .3) (at-first-page .first-page .ensures) (at-earlier .earlier .ensures)
+    (at-stretch .stretch .ensures) (at-later .later .ensures) (at-earlier2 .earlier2 .ensures) (at-later2 .later2 .ensures)
+    (at-begin .begin .ensures .0) in
+    let none-left = gone (args .book .now) (args .h .first) (args .ats .now) start-offsets start-rules (at-earlier2 .earlier2 .result) _ _ _
+    (at-turn-on .turn-on .ensures .0) (at-enum-told2 .enum-told2 .given .1) in
+    done-ending (args .book .now) (args .h .first) (args .ats .now) start-offsets start-rules (at-earlier2 .earlier2 .result)
+    (at-pieces .pieces .inv .1) none-left standing (at-stretch3 .stretch3 .ensures)
 
 same-length : tie.Need-same-length Inv-pieces μ-pieces
 same-length c =
@@ -226,7 +303,17 @@ returns c =
     let at-later = at-earlier2 .before in
     let at-earlier = at-later .before in
     let at-start = at-earlier .before .before .before .before .before .before .before .before .before in
-    done-put ((at-start .args .book) .now) ((at-start .args .h) .first) ((at-start .args .ats) .now) ((at-start .args .offsets) .now) ((at-start .args .rules) .now) (at-earlier2 .earlier2 .result) ((at-pieces .pieces .inv) .1) (gone ((at-start .args .book) .now) ((at-start .args .h) .first) ((at-start .args .ats) .now) ((at-start .args .offsets) .now) ((at-start .args .rules) .now) (at-earlier2 .earlier2 .result) _ _ _ (at-turn-on .turn-on .ensures .0) ((at-enum-told2 .enum-told2 .given) .1)) (venue-standing ((at-start .args .book) .now) (at-start .args .h) ((at-start .args .ats) .now) ((at-start .args .offsets) .now) ((at-start .args .rules) .now) ((at-start .args .events) .now) ((at-start .args .out) .now) ((at-start .pre) .1) ((at-start .pre) .2) ((at-start .pre) .3) (at-first-page .first-page .ensures) (at-earlier .earlier .ensures) (at-stretch .stretch .ensures) (at-later .later .ensures) (at-earlier2 .earlier2 .ensures) (at-later2 .later2 .ensures) (at-begin .begin .ensures .0)) (at-stretch3 .stretch3 .ensures) (at-finish .finish .ensures)
+    let start-offsets = at-start .args .offsets .now in
+    let start-rules = at-start .args .rules .now in
+    let args = at-start .args in
+    let standing = venue-standing (args .book .now) (args .h) (args .ats .now) start-offsets start-rules (args .events .now) (args .out .now)
+    (at-start .pre .1) (at-start .pre .2) (at-start .pre .3) (at-first-page .first-page .ensures) (at-earlier .earlier .ensures)
+    (at-stretch .stretch .ensures) (at-later .later .ensures) (at-earlier2 .earlier2 .ensures) (at-later2 .later2 .ensures)
+    (at-begin .begin .ensures .0) in
+    let none-left = gone (args .book .now) (args .h .first) (args .ats .now) start-offsets start-rules (at-earlier2 .earlier2 .result) _ _ _
+    (at-turn-on .turn-on .ensures .0) (at-enum-told2 .enum-told2 .given .1) in
+    done-put (args .book .now) (args .h .first) (args .ats .now) start-offsets start-rules (at-earlier2 .earlier2 .result) (at-pieces .pieces .inv .1)
+    none-left standing (at-stretch3 .stretch3 .ensures) (at-finish .finish .ensures)
 
 pub put-tallies-spec : {M : Type 1} → statement M
 put-tallies-spec =

@@ -17,7 +17,9 @@ returns c =
     let at-refused = c in
     let at-if1 = at-refused .before in
     let at-start = at-if1 .before .before in
-    lent-reply (lent-short (encodeAll (gapForms none ((at-start .args .start) .0) ((at-start .args .end) .0))) _ refl (omega (arith, (at-if1 .if1 .taken), (gap-length none ((at-start .args .start) .0) ((at-start .args .end) .0)), gap-some (at-start .pre)))) (at-refused .refused .ensures)
+    let args = at-start .args in
+    lent-reply (lent-short (encodeAll (gapForms none (args .start .0) (args .end .0))) _ refl
+    (omega (arith, (at-if1 .if1 .taken), (gap-length none (args .start .0) (args .end .0)), gap-some (at-start .pre)))) (at-refused .refused .ensures)
 
 put-unknown-requires : tie.Need-put-unknown-requires
 put-unknown-requires c κs =
@@ -37,7 +39,11 @@ returns-2 c =
     let at-put-unknown = at-answered .before .before .before in
     let at-if1 = at-put-unknown .before .before in
     let at-start = at-if1 .before .before in
-    lent-reply (lent-written (encodeAll (gapForms none ((at-start .args .start) .0) ((at-start .args .end) .0))) _ refl (omega (arith, (at-if1 .if1 .left), (gap-length none ((at-start .args .start) .0) ((at-start .args .end) .0)), gap-some (at-start .pre))) ((at-put-unknown .put-unknown .ensures) .same) (omega (arith, (at-put-unknown .put-unknown .ensures) .behind, (gap-length none ((at-start .args .start) .0) ((at-start .args .end) .0))))) (at-answered .answered .ensures)
+    let args = at-start .args in
+    let gap-long = gap-length none (args .start .0) (args .end .0) in
+    lent-reply (lent-written (encodeAll (gapForms none (args .start .0) (args .end .0))) _ refl
+    (omega (arith, (at-if1 .if1 .left), gap-long, gap-some (at-start .pre))) (at-put-unknown .put-unknown .ensures .same)
+    (omega (arith, (at-put-unknown .put-unknown .ensures .behind), gap-long))) (at-answered .answered .ensures)
 
 pub tell-empty-spec : {M : Type 1} → statement M
 tell-empty-spec =

@@ -38,7 +38,9 @@ tell-empty-requires c κs =
     let at-a = c .before .before in
     let at-asked-window = at-a .before .before in
     let at-start = at-asked-window .before .before .before .before .before .before .before .before .before in
-    window-between (((at-start .args .start))) (((at-start .args .end))) (sym ((at-a .a .given) .1) ∙ (at-asked-window .asked-window .ensures) ∙ ap₂ windowOf (toZ-ofZ w64 (at-start .args .start) (at-start .fits .start)) (toZ-ofZ w64 (at-start .args .end) (at-start .fits .end))) .order
+    let args = at-start .args in
+    window-between (args .start) (args .end) (sym (at-a .a .given .1) ∙ (at-asked-window .asked-window .ensures) ∙ ap₂ windowOf
+    (toZ-ofZ w64 (args .start) (at-start .fits .start)) (toZ-ofZ w64 (args .end) (at-start .fits .end))) .order
 
 enum-known-opened-2 : tie.Need-enum-known-opened-2
 enum-known-opened-2 c = search needs
@@ -59,25 +61,29 @@ slice-aggregate-tell-venue : tie.Need-slice-aggregate-tell-venue
 slice-aggregate-tell-venue c =
     let at-opened2 = c .before .before .before .before .before .before in
     let at-start = at-opened2 .before .before .before .before .before .before .before .before in
-    sym (length-take-le _ _ (ats-in ((at-start .pre)) (opened-venue ((((at-start .args .book)) .now)) _ (sym ((at-opened2 .opened2 .given) .1) ∙ (at-start .pre) .answer))))
+    sym (length-take-le _ _
+    (ats-in (at-start .pre) (opened-venue (at-start .args .book .now) _ (sym (at-opened2 .opened2 .given .1) ∙ (at-start .pre) .answer))))
 
 slice-aggregate-tell-venue-2 : tie.Need-slice-aggregate-tell-venue-2
 slice-aggregate-tell-venue-2 c =
     let at-opened2 = c .before .before .before .before .before .before .before in
     let at-start = at-opened2 .before .before .before .before .before .before .before .before in
-    sym (length-take-le _ _ (offsets-in ((at-start .pre)) (opened-venue ((((at-start .args .book)) .now)) _ (sym ((at-opened2 .opened2 .given) .1) ∙ (at-start .pre) .answer))))
+    sym (length-take-le _ _
+    (offsets-in (at-start .pre) (opened-venue (at-start .args .book .now) _ (sym (at-opened2 .opened2 .given .1) ∙ (at-start .pre) .answer))))
 
 slice-aggregate-tell-venue-3 : tie.Need-slice-aggregate-tell-venue-3
 slice-aggregate-tell-venue-3 c =
     let at-opened2 = c .before .before .before .before .before .before .before .before in
     let at-start = at-opened2 .before .before .before .before .before .before .before .before in
-    sym (length-take-le _ _ (rules-in ((at-start .pre)) (opened-venue ((((at-start .args .book)) .now)) _ (sym ((at-opened2 .opened2 .given) .1) ∙ (at-start .pre) .answer))))
+    sym (length-take-le _ _
+    (rules-in (at-start .pre) (opened-venue (at-start .args .book .now) _ (sym (at-opened2 .opened2 .given .1) ∙ (at-start .pre) .answer))))
 
 slice-aggregate-tell-venue-4 : tie.Need-slice-aggregate-tell-venue-4
 slice-aggregate-tell-venue-4 c =
     let at-opened2 = c .before .before .before .before .before .before .before .before .before in
     let at-start = at-opened2 .before .before .before .before .before .before .before .before in
-    sym (length-take-le _ _ (events-in ((at-start .pre)) (opened-venue ((((at-start .args .book)) .now)) _ (sym ((at-opened2 .opened2 .given) .1) ∙ (at-start .pre) .answer))))
+    sym (length-take-le _ _
+    (events-in (at-start .pre) (opened-venue (at-start .args .book .now) _ (sym (at-opened2 .opened2 .given .1) ∙ (at-start .pre) .answer))))
 
 tell-venue-requires : tie.Need-tell-venue-requires
 tell-venue-requires c κs =
@@ -90,7 +96,8 @@ returns c =
     let at-refused = c in
     let at-opened = at-refused .before .before in
     let at-start = at-opened .before .before .before .before .before .before .before .before in
-    close-refused ((((at-start .args .book)) .now)) (((at-start .args .start))) (((at-start .args .end))) _ (sym ((at-opened .opened .given) .1) ∙ (at-start .pre) .answer) ((at-refused .refused .ensures))
+    close-refused (at-start .args .book .now) (at-start .args .start) (at-start .args .end) _
+    (sym (at-opened .opened .given .1) ∙ (at-start .pre) .answer) (at-refused .refused .ensures)
 
 returns-2 : tie.Need-returns-2
 returns-2 c =
@@ -99,7 +106,11 @@ returns-2 c =
     let at-asked-window = at-n .before .before in
     let at-enum-told = at-asked-window .before in
     let at-start = at-enum-told .before .before .before .before .before .before .before .before in
-    close-window ((((at-start .args .book)) .now)) (((at-start .args .start))) (((at-start .args .end))) (opened-empty ((((at-start .args .book)) .now)) (sym ((at-enum-told .enum-told .given) .1) ∙ (at-start .pre) .answer) .0) _ (sym ((at-n .n .given) .1) ∙ (at-asked-window .asked-window .ensures) ∙ ap₂ windowOf (toZ-ofZ w64 (at-start .args .start) (at-start .fits .start)) (toZ-ofZ w64 (at-start .args .end) (at-start .fits .end))) ((at-refused2 .refused2 .ensures))
+    let args = at-start .args in
+    close-window (args .book .now) (args .start) (args .end)
+    (opened-empty (args .book .now) (sym (at-enum-told .enum-told .given .1) ∙ (at-start .pre) .answer) .0) _ (sym (at-n .n .given .1) ∙
+    (at-asked-window .asked-window .ensures) ∙ ap₂ windowOf (toZ-ofZ w64 (args .start) (at-start .fits .start))
+    (toZ-ofZ w64 (args .end) (at-start .fits .end))) (at-refused2 .refused2 .ensures)
 
 same-length : tie.Need-same-length
 same-length c = search needs
@@ -111,7 +122,10 @@ returns-3 c =
     let at-asked-window = at-a .before .before in
     let at-enum-told = at-asked-window .before in
     let at-start = at-enum-told .before .before .before .before .before .before .before .before in
-    close-empty ((((at-start .args .book)) .now)) (((at-start .args .start))) (((at-start .args .end))) (window-between _ _ (sym ((at-a .a .given) .1) ∙ (at-asked-window .asked-window .ensures) ∙ ap₂ windowOf (toZ-ofZ w64 (at-start .args .start) (at-start .fits .start)) (toZ-ofZ w64 (at-start .args .end) (at-start .fits .end)))) (sym ((at-enum-told .enum-told .given) .1) ∙ (at-start .pre) .answer) ((at-tell-empty .tell-empty .ensures))
+    let args = at-start .args in
+    close-empty (args .book .now) (args .start) (args .end) (window-between _ _ (sym (at-a .a .given .1) ∙ (at-asked-window .asked-window .ensures) ∙
+    ap₂ windowOf (toZ-ofZ w64 (args .start) (at-start .fits .start)) (toZ-ofZ w64 (args .end) (at-start .fits .end))))
+    (sym (at-enum-told .enum-told .given .1) ∙ (at-start .pre) .answer) (at-tell-empty .tell-empty .ensures)
 
 returns-4 : tie.Need-returns-4
 returns-4 c =
@@ -120,7 +134,11 @@ returns-4 c =
     let at-asked-window2 = at-n2 .before .before in
     let at-opened2 = at-asked-window2 .before .before in
     let at-start = at-opened2 .before .before .before .before .before .before .before .before in
-    close-window ((((at-start .args .book)) .now)) (((at-start .args .start))) (((at-start .args .end))) ((opened-venue ((((at-start .args .book)) .now)) _ (sym ((at-opened2 .opened2 .given) .1) ∙ (at-start .pre) .answer)) .accepted) _ (sym ((at-n2 .n2 .given) .1) ∙ (at-asked-window2 .asked-window2 .ensures) ∙ ap₂ windowOf (toZ-ofZ w64 (at-start .args .start) (at-start .fits .start)) (toZ-ofZ w64 (at-start .args .end) (at-start .fits .end))) ((at-refused3 .refused3 .ensures))
+    let args = at-start .args in
+    close-window (args .book .now) (args .start) (args .end)
+    ((opened-venue (args .book .now) _ (sym (at-opened2 .opened2 .given .1) ∙ (at-start .pre) .answer)) .accepted) _ (sym (at-n2 .n2 .given .1) ∙
+    (at-asked-window2 .asked-window2 .ensures) ∙ ap₂ windowOf (toZ-ofZ w64 (args .start) (at-start .fits .start))
+    (toZ-ofZ w64 (args .end) (at-start .fits .end))) (at-refused3 .refused3 .ensures)
 
 same-length-2 : tie.Need-same-length-2
 same-length-2 c = search needs
@@ -132,7 +150,11 @@ returns-5 c =
     let at-asked-window2 = at-a2 .before .before in
     let at-opened2 = at-asked-window2 .before .before in
     let at-start = at-opened2 .before .before .before .before .before .before .before .before in
-    close-venue ((((at-start .args .book)) .now)) (((at-start .args .start))) (((at-start .args .end))) (window-between _ _ (sym ((at-a2 .a2 .given) .1) ∙ (at-asked-window2 .asked-window2 .ensures) ∙ ap₂ windowOf (toZ-ofZ w64 (at-start .args .start) (at-start .fits .start)) (toZ-ofZ w64 (at-start .args .end) (at-start .fits .end)))) (opened-venue ((((at-start .args .book)) .now)) _ (sym ((at-opened2 .opened2 .given) .1) ∙ (at-start .pre) .answer)) _ (front-values ((at-start .pre)) (opened-venue ((((at-start .args .book)) .now)) _ (sym ((at-opened2 .opened2 .given) .1) ∙ (at-start .pre) .answer))) ((at-tell-venue .tell-venue .ensures))
+    let args = at-start .args in
+    let known = opened-venue (args .book .now) _ (sym (at-opened2 .opened2 .given .1) ∙ (at-start .pre) .answer) in
+    close-venue (args .book .now) (args .start) (args .end) (window-between _ _ (sym (at-a2 .a2 .given .1) ∙
+    (at-asked-window2 .asked-window2 .ensures) ∙ ap₂ windowOf (toZ-ofZ w64 (args .start) (at-start .fits .start))
+    (toZ-ofZ w64 (args .end) (at-start .fits .end)))) known _ (front-values (at-start .pre) known) (at-tell-venue .tell-venue .ensures)
 
 pub tell-opened-spec : {M : Type 1} → statement M
 tell-opened-spec =

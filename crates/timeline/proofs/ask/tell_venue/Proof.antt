@@ -58,7 +58,11 @@ returns c =
     let at-later = at-earlier2 .before in
     let at-earlier = at-later .before in
     let at-start = at-earlier .before .before .before .before .before .before .before .before .before in
-    told-short (valuesAt (((at-start .args .book)) .now) ((at-start .args .h)) (((at-start .args .ats)) .now) (((at-start .args .offsets)) .now) (((at-start .args .rules)) .now) (((at-start .args .events)) .now)) (Between (((at-start .args .h)) .start) (((at-start .args .h)) .end)) (((at-start .args .start)) .0) (((at-start .args .end)) .0) ((at-earlier .earlier .ensures)) ((at-later .later .ensures)) ((at-earlier2 .earlier2 .ensures)) ((at-later2 .later2 .ensures)) ((at-walk-size .walk-size .ensures) .0) (omega (arith, (at-if1 .if1 .taken), (at-gap-size .gap-size .ensures) .0, (at-gap-size2 .gap-size2 .ensures) .0)) ((at-refused .refused .ensures))
+    let args = at-start .args in
+    told-short (valuesAt (args .book .now) (args .h) (args .ats .now) (args .offsets .now) (args .rules .now) (args .events .now))
+    (Between (args .h .start) (args .h .end)) (args .start .0) (args .end .0) (at-earlier .earlier .ensures) (at-later .later .ensures)
+    (at-earlier2 .earlier2 .ensures) (at-later2 .later2 .ensures) (at-walk-size .walk-size .ensures .0)
+    (omega (arith, (at-if1 .if1 .taken), (at-gap-size .gap-size .ensures .0), (at-gap-size2 .gap-size2 .ensures .0))) (at-refused .refused .ensures)
 
 put-unknown-requires : tie.Need-put-unknown-requires
 put-unknown-requires c κs =
@@ -79,7 +83,14 @@ put-walk-requires c κs =
     let at-later = at-earlier2 .before in
     let at-earlier = at-later .before in
     let at-start = at-earlier .before .before .before .before .before .before .before .before .before in
-    ((at-start .pre), walk-room (valuesAt (((at-start .args .book)) .now) ((at-start .args .h)) (((at-start .args .ats)) .now) (((at-start .args .offsets)) .now) (((at-start .args .rules)) .now) (((at-start .args .events)) .now)) (Between (((at-start .args .h)) .start) (((at-start .args .h)) .end)) (((at-start .args .start)) .0) (((at-start .args .end)) .0) ((at-earlier .earlier .ensures)) ((at-later .later .ensures)) ((at-earlier2 .earlier2 .ensures)) ((at-later2 .later2 .ensures)) ((at-walk-size .walk-size .ensures) .0) (omega (arith, (at-if1 .if1 .left), (at-gap-size .gap-size .ensures) .0, (at-gap-size2 .gap-size2 .ensures) .0)) ((at-put-unknown .put-unknown .ensures)))
+    let args = at-start .args in (
+      (at-start .pre),
+      walk-room (valuesAt (args .book .now) (args .h) (args .ats .now) (args .offsets .now) (args .rules .now) (args .events .now))
+          (Between (args .h .start) (args .h .end)) (args .start .0) (args .end .0) (at-earlier .earlier .ensures) (at-later .later .ensures)
+          (at-earlier2 .earlier2 .ensures) (at-later2 .later2 .ensures) (at-walk-size .walk-size .ensures .0)
+          (omega (arith, (at-if1 .if1 .left), (at-gap-size .gap-size .ensures .0), (at-gap-size2 .gap-size2 .ensures .0)))
+          (at-put-unknown .put-unknown .ensures),
+    )
 
 put-unknown-requires-2 : tie.Need-put-unknown-requires-2
 put-unknown-requires-2 c κs =
@@ -94,7 +105,12 @@ put-unknown-requires-2 c κs =
     let at-later = at-earlier2 .before in
     let at-earlier = at-later .before in
     let at-start = at-earlier .before .before .before .before .before .before .before .before .before in
-    last-room (valuesAt (((at-start .args .book)) .now) ((at-start .args .h)) (((at-start .args .ats)) .now) (((at-start .args .offsets)) .now) (((at-start .args .rules)) .now) (((at-start .args .events)) .now)) (Between (((at-start .args .h)) .start) (((at-start .args .h)) .end)) (((at-start .args .start)) .0) (((at-start .args .end)) .0) ((at-earlier .earlier .ensures)) ((at-later .later .ensures)) ((at-earlier2 .earlier2 .ensures)) ((at-later2 .later2 .ensures)) ((at-walk-size .walk-size .ensures) .0) (omega (arith, (at-if1 .if1 .left), (at-gap-size .gap-size .ensures) .0, (at-gap-size2 .gap-size2 .ensures) .0)) ((at-put-unknown .put-unknown .ensures)) ((at-put-walk .put-walk .ensures))
+    let args = at-start .args in
+    last-room (valuesAt (args .book .now) (args .h) (args .ats .now) (args .offsets .now) (args .rules .now) (args .events .now))
+    (Between (args .h .start) (args .h .end)) (args .start .0) (args .end .0) (at-earlier .earlier .ensures) (at-later .later .ensures)
+    (at-earlier2 .earlier2 .ensures) (at-later2 .later2 .ensures) (at-walk-size .walk-size .ensures .0)
+    (omega (arith, (at-if1 .if1 .left), (at-gap-size .gap-size .ensures .0), (at-gap-size2 .gap-size2 .ensures .0)))
+    (at-put-unknown .put-unknown .ensures) (at-put-walk .put-walk .ensures)
 
 answered-requires : tie.Need-answered-requires
 answered-requires c κs = search needs
@@ -121,7 +137,12 @@ returns-2 c =
     let at-later = at-earlier2 .before in
     let at-earlier = at-later .before in
     let at-start = at-earlier .before .before .before .before .before .before .before .before .before in
-    told-written (valuesAt (((at-start .args .book)) .now) ((at-start .args .h)) (((at-start .args .ats)) .now) (((at-start .args .offsets)) .now) (((at-start .args .rules)) .now) (((at-start .args .events)) .now)) (Between (((at-start .args .h)) .start) (((at-start .args .h)) .end)) (((at-start .args .start)) .0) (((at-start .args .end)) .0) ((at-earlier .earlier .ensures)) ((at-later .later .ensures)) ((at-earlier2 .earlier2 .ensures)) ((at-later2 .later2 .ensures)) ((at-walk-size .walk-size .ensures) .0) (omega (arith, (at-if1 .if1 .left), (at-gap-size .gap-size .ensures) .0, (at-gap-size2 .gap-size2 .ensures) .0)) ((at-put-unknown .put-unknown .ensures)) ((at-put-walk .put-walk .ensures)) ((at-put-unknown2 .put-unknown2 .ensures)) ((at-answered .answered .ensures))
+    let args = at-start .args in
+    told-written (valuesAt (args .book .now) (args .h) (args .ats .now) (args .offsets .now) (args .rules .now) (args .events .now))
+    (Between (args .h .start) (args .h .end)) (args .start .0) (args .end .0) (at-earlier .earlier .ensures) (at-later .later .ensures)
+    (at-earlier2 .earlier2 .ensures) (at-later2 .later2 .ensures) (at-walk-size .walk-size .ensures .0)
+    (omega (arith, (at-if1 .if1 .left), (at-gap-size .gap-size .ensures .0), (at-gap-size2 .gap-size2 .ensures .0)))
+    (at-put-unknown .put-unknown .ensures) (at-put-walk .put-walk .ensures) (at-put-unknown2 .put-unknown2 .ensures) (at-answered .answered .ensures)
 
 pub tell-venue-spec : {M : Type 1} → statement M
 tell-venue-spec =

@@ -12,7 +12,14 @@ returns c =
     let at-if1 = c in
     let at-check = at-if1 .before in
     let at-start = at-check .before .before in
-    let no : (refusal base (at-start .args .book .now) ≡ 0 → ⊥) = λ e. (at-if1 .if1 .taken) ((at-check .check .ensures) ∙ e) in (refused-answer (at-start .args .book .now) no _ (at-check .check .ensures), refused-kept (at-start .args .book .now) no _ _, refused-kept (at-start .args .book .now) no _ _, refused-kept (at-start .args .book .now) no _ _, refused-kept (at-start .args .book .now) no _ _)
+    let args = at-start .args in
+    let no : (refusal base (args .book .now) ≡ 0 → ⊥) = λ e. (at-if1 .if1 .taken) ((at-check .check .ensures) ∙ e) in (
+      refused-answer (args .book .now) no _ (at-check .check .ensures),
+      refused-kept (args .book .now) no _ _,
+      refused-kept (args .book .now) no _ _,
+      refused-kept (args .book .now) no _ _,
+      refused-kept (args .book .now) no _ _,
+    )
 
 returns-2 : tie.Need-returns-2
 returns-2 c =
@@ -43,7 +50,8 @@ sub-t14 c =
     let at-if1 = at-if2 .before in
     let at-check = at-if1 .before in
     let at-start = at-check .before .before in
-    let e = (at-signed8 .signed8 .ensures) in omega (arith, (head (at-start .args .book .now) (sym (at-check .check .ensures) ∙ (at-if1 .if1 .left)) (at-if2 .if2 .left)) .start-low)
+    let e = at-signed8 .signed8 .ensures in
+    omega (arith, (head (at-start .args .book .now) (sym (at-check .check .ensures) ∙ (at-if1 .if1 .left)) (at-if2 .if2 .left)) .start-low)
 
 signed8-requires-2 : tie.Need-signed8-requires-2
 signed8-requires-2 c κs =
@@ -60,7 +68,8 @@ sub-t14-2 c =
     let at-if1 = at-if2 .before in
     let at-check = at-if1 .before in
     let at-start = at-check .before .before in
-    let e = (at-signed82 .signed82 .ensures) in omega (arith, (head (at-start .args .book .now) (sym (at-check .check .ensures) ∙ (at-if1 .if1 .left)) (at-if2 .if2 .left)) .end-low)
+    let e = at-signed82 .signed82 .ensures in
+    omega (arith, (head (at-start .args .book .now) (sym (at-check .check .ensures) ∙ (at-if1 .if1 .left)) (at-if2 .if2 .left)) .end-low)
 
 signed4-requires : tie.Need-signed4-requires
 signed4-requires c κs =
@@ -77,13 +86,15 @@ sub-first c =
     let at-if1 = at-if2 .before in
     let at-check = at-if1 .before in
     let at-start = at-check .before .before in
-    let e = (at-signed4 .signed4 .ensures) in omega (arith, (head (at-start .args .book .now) (sym (at-check .check .ensures) ∙ (at-if1 .if1 .left)) (at-if2 .if2 .left)) .offset-low)
+    let e = at-signed4 .signed4 .ensures in
+    omega (arith, (head (at-start .args .book .now) (sym (at-check .check .ensures) ∙ (at-if1 .if1 .left)) (at-if2 .if2 .left)) .offset-low)
 
 store-requires : tie.Need-store-requires
 store-requires c κs =
     let at-if1 = c .before .before .before .before .before .before .before .before .before .before .before in
     let at-check = at-if1 .before in
-    record { accepted = (sym (at-check .check .ensures) ∙ (at-if1 .if1 .left)); ats-long = omega arith; offsets-long = omega arith; rules-long = omega arith; events-long = omega arith }
+    record
+    { accepted = (sym (at-check .check .ensures) ∙ (at-if1 .if1 .left)); ats-long = omega arith; offsets-long = omega arith; rules-long = omega arith; events-long = omega arith }
 
 returns-3 : tie.Need-returns-3
 returns-3 c =

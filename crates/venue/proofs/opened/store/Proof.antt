@@ -50,7 +50,12 @@ add-signed8 c =
     let at-loop-test = at-get2 .before in
     let at-loop = at-loop-test .before in
     let at-start = at-loop .before .before .before .before .before .before in
-    omega (arith, (room2 (at-start .args .book .now) (at-loop .loop .at) _ (frame (here at-loop-test)) refl (sym (at-get2 .get2 .ensures) ∙ (at-match .match .keys1))), (here at-loop-test) .small)
+    omega (
+      arith,
+      (room2 (at-start .args .book .now) (at-loop .loop .at) _ (frame (here at-loop-test)) refl
+          (sym (at-get2 .get2 .ensures) ∙ (at-match .match .keys1))),
+      (here at-loop-test) .small,
+    )
 
 signed8-requires : At tie.Need-signed8-requires
 signed8-requires c κs =
@@ -59,7 +64,11 @@ signed8-requires c κs =
     let at-loop-test = at-get2 .before in
     let at-loop = at-loop-test .before in
     let at-start = at-loop .before .before .before .before .before .before in
-    omega (arith, (room2 (at-start .args .book .now) (at-loop .loop .at) _ (frame (here at-loop-test)) refl (sym (at-get2 .get2 .ensures) ∙ (at-match .match .keys1))))
+    omega (
+      arith,
+      (room2 (at-start .args .book .now) (at-loop .loop .at) _ (frame (here at-loop-test)) refl
+          (sym (at-get2 .get2 .ensures) ∙ (at-match .match .keys1))),
+    )
 
 sub-ats : At tie.Need-sub-ats
 sub-ats c =
@@ -75,7 +84,9 @@ mul-ats c =
     let at-match = at-signed8 .before in
     let at-get2 = at-match .before in
     let at-loop-test = at-get2 .before in
-    let r = range (here at-loop-test) (sym (at-get2 .get2 .ensures) ∙ (at-match .match .keys1)) in let e = (at-signed8 .signed8 .ensures) in omega (arith, r .at-low, r .at-high)
+    let r = range (here at-loop-test) (sym (at-get2 .get2 .ensures) ∙ (at-match .match .keys1)) in
+    let e = at-signed8 .signed8 .ensures in
+    omega (arith, r .at-low, r .at-high)
 
 slice-write-ats : At tie.Need-slice-write-ats
 slice-write-ats c =
@@ -91,7 +102,12 @@ add-signed4 c =
     let at-loop-test = at-get2 .before in
     let at-loop = at-loop-test .before in
     let at-start = at-loop .before .before .before .before .before .before in
-    omega (arith, (room2 (at-start .args .book .now) (at-loop .loop .at) _ (frame (here at-loop-test)) refl (sym (at-get2 .get2 .ensures) ∙ (at-match .match .keys1))), (here at-loop-test) .small)
+    omega (
+      arith,
+      (room2 (at-start .args .book .now) (at-loop .loop .at) _ (frame (here at-loop-test)) refl
+          (sym (at-get2 .get2 .ensures) ∙ (at-match .match .keys1))),
+      (here at-loop-test) .small,
+    )
 
 signed4-requires : At tie.Need-signed4-requires
 signed4-requires c κs =
@@ -100,7 +116,11 @@ signed4-requires c κs =
     let at-loop-test = at-get2 .before in
     let at-loop = at-loop-test .before in
     let at-start = at-loop .before .before .before .before .before .before in
-    omega (arith, (room2 (at-start .args .book .now) (at-loop .loop .at) _ (frame (here at-loop-test)) refl (sym (at-get2 .get2 .ensures) ∙ (at-match .match .keys1))))
+    omega (
+      arith,
+      (room2 (at-start .args .book .now) (at-loop .loop .at) _ (frame (here at-loop-test)) refl
+          (sym (at-get2 .get2 .ensures) ∙ (at-match .match .keys1))),
+    )
 
 sub-offsets : At tie.Need-sub-offsets
 sub-offsets c =
@@ -108,7 +128,9 @@ sub-offsets c =
     let at-match = at-signed4 .before .before .before in
     let at-get2 = at-match .before in
     let at-loop-test = at-get2 .before in
-    let r = range (here at-loop-test) (sym (at-get2 .get2 .ensures) ∙ (at-match .match .keys1)) in let e = (at-signed4 .signed4 .ensures) in omega (arith, r .offset-low)
+    let r = range (here at-loop-test) (sym (at-get2 .get2 .ensures) ∙ (at-match .match .keys1)) in
+    let e = at-signed4 .signed4 .ensures in
+    omega (arith, r .offset-low)
 
 slice-write-offsets : At tie.Need-slice-write-offsets
 slice-write-offsets c =
@@ -130,7 +152,12 @@ add-at c =
     let at-loop-test = at-get2 .before in
     let at-loop = at-loop-test .before in
     let at-start = at-loop .before .before .before .before .before .before in
-    omega (arith, (room2 (at-start .args .book .now) (at-loop .loop .at) _ (frame (here at-loop-test)) refl (sym (at-get2 .get2 .ensures) ∙ (at-match .match .keys1))), (here at-loop-test) .small)
+    omega (
+      arith,
+      (room2 (at-start .args .book .now) (at-loop .loop .at) _ (frame (here at-loop-test)) refl
+          (sym (at-get2 .get2 .ensures) ∙ (at-match .match .keys1))),
+      (here at-loop-test) .small,
+    )
 
 loop-less : At tie.Need-loop-less
 loop-less c =
@@ -139,7 +166,11 @@ loop-less c =
     let at-loop-test = at-get2 .before in
     let at-loop = at-loop-test .before in
     let at-start = at-loop .before .before .before .before .before .before in
-    omega (arith, (room2 (at-start .args .book .now) (at-loop .loop .at) _ (frame (here at-loop-test)) refl (sym (at-get2 .get2 .ensures) ∙ (at-match .match .keys1))))
+    omega (
+      arith,
+      (room2 (at-start .args .book .now) (at-loop .loop .at) _ (frame (here at-loop-test)) refl
+          (sym (at-get2 .get2 .ensures) ∙ (at-match .match .keys1))),
+    )
 
 loop-again : At tie.Need-loop-again
 loop-again c =
@@ -150,7 +181,10 @@ loop-again c =
     let at-loop-test = at-get2 .before in
     let at-loop = at-loop-test .before in
     let at-start = at-loop .before .before .before .before .before .before in
-    let r = range (here at-loop-test) (sym (at-get2 .get2 .ensures) ∙ (at-match .match .keys1)) in pass-change (here at-loop-test) (next2 (at-start .args .book .now) (at-loop .loop .at) _ (frame (here at-loop-test)) refl (sym (at-get2 .get2 .ensures) ∙ (at-match .match .keys1))) (sym (at-get2 .get2 .ensures) ∙ (at-match .match .keys1)) (instant-kept r _ (at-signed8 .signed8 .ensures)) (offset-kept r _ (at-signed4 .signed4 .ensures))
+    let sym-is = sym (at-get2 .get2 .ensures) ∙ (at-match .match .keys1) in
+    let r = range (here at-loop-test) sym-is in
+    pass-change (here at-loop-test) (next2 (at-start .args .book .now) (at-loop .loop .at) _ (frame (here at-loop-test)) refl sym-is) sym-is
+    (instant-kept r _ (at-signed8 .signed8 .ensures)) (offset-kept r _ (at-signed4 .signed4 .ensures))
 
 cast-rules : At tie.Need-cast-rules
 cast-rules c =
@@ -181,7 +215,8 @@ add-at-3 c =
     let at-loop-test = at-get22 .before .before .before in
     let at-loop = at-loop-test .before in
     let at-start = at-loop .before .before .before .before .before .before in
-    let z = (size-by (at-start .args .book .now) (at-loop .loop .at) _ (at-get22 .get22 .ensures)) in omega (arith, (frame (here at-loop-test)) .whole, (here at-loop-test) .small)
+    let z = size-by (at-start .args .book .now) (at-loop .loop .at) _ (at-get22 .get22 .ensures) in
+    omega (arith, (frame (here at-loop-test)) .whole, (here at-loop-test) .small)
 
 loop-less-2 : At tie.Need-loop-less-2
 loop-less-2 c =
@@ -199,7 +234,9 @@ loop-again-2 c =
     let at-loop-test = at-get2 .before in
     let at-loop = at-loop-test .before in
     let at-start = at-loop .before .before .before .before .before .before in
-    let z = (size-by (at-start .args .book .now) (at-loop .loop .at) _ (at-get22 .get22 .ensures)) in let to : (at-loop .loop .at) + (2 + (at-get22 .get22 .result)) ≡ nextAt (at-start .args .book .now) (at-loop .loop .at) = omega arith in pass-rule (here at-loop-test) to (sym (at-get2 .get2 .ensures) ∙ (at-match .match .keys2))
+    let z = size-by (at-start .args .book .now) (at-loop .loop .at) _ (at-get22 .get22 .ensures) in
+    let to : (at-loop .loop .at) + (2 + (at-get22 .get22 .result)) ≡ nextAt (at-start .args .book .now) (at-loop .loop .at) = omega arith in
+    pass-rule (here at-loop-test) to (sym (at-get2 .get2 .ensures) ∙ (at-match .match .keys2))
 
 cast-events : At tie.Need-cast-events
 cast-events c =
@@ -230,7 +267,8 @@ add-at-5 c =
     let at-loop-test = at-get23 .before .before .before in
     let at-loop = at-loop-test .before in
     let at-start = at-loop .before .before .before .before .before .before in
-    let z = (size-by (at-start .args .book .now) (at-loop .loop .at) _ (at-get23 .get23 .ensures)) in omega (arith, (frame (here at-loop-test)) .whole, (here at-loop-test) .small)
+    let z = size-by (at-start .args .book .now) (at-loop .loop .at) _ (at-get23 .get23 .ensures) in
+    omega (arith, (frame (here at-loop-test)) .whole, (here at-loop-test) .small)
 
 loop-less-3 : At tie.Need-loop-less-3
 loop-less-3 c =
@@ -248,7 +286,9 @@ loop-again-3 c =
     let at-loop-test = at-get2 .before in
     let at-loop = at-loop-test .before in
     let at-start = at-loop .before .before .before .before .before .before in
-    let z = (size-by (at-start .args .book .now) (at-loop .loop .at) _ (at-get23 .get23 .ensures)) in let to : (at-loop .loop .at) + (2 + (at-get23 .get23 .result)) ≡ nextAt (at-start .args .book .now) (at-loop .loop .at) = omega arith in pass-event (here at-loop-test) to (sym (at-get2 .get2 .ensures) ∙ (at-match .match .keys3))
+    let z = size-by (at-start .args .book .now) (at-loop .loop .at) _ (at-get23 .get23 .ensures) in
+    let to : (at-loop .loop .at) + (2 + (at-get23 .get23 .result)) ≡ nextAt (at-start .args .book .now) (at-loop .loop .at) = omega arith in
+    pass-event (here at-loop-test) to (sym (at-get2 .get2 .ensures) ∙ (at-match .match .keys3))
 
 get2-requires-4 : At tie.Need-get2-requires-4
 get2-requires-4 c κs =
@@ -261,7 +301,8 @@ add-at-7 c =
     let at-loop-test = at-get24 .before .before .before in
     let at-loop = at-loop-test .before in
     let at-start = at-loop .before .before .before .before .before .before in
-    let z = (size-by (at-start .args .book .now) (at-loop .loop .at) _ (at-get24 .get24 .ensures)) in omega (arith, (frame (here at-loop-test)) .whole, (here at-loop-test) .small)
+    let z = size-by (at-start .args .book .now) (at-loop .loop .at) _ (at-get24 .get24 .ensures) in
+    omega (arith, (frame (here at-loop-test)) .whole, (here at-loop-test) .small)
 
 loop-less-4 : At tie.Need-loop-less-4
 loop-less-4 c =
@@ -279,7 +320,10 @@ loop-again-4 c =
     let at-loop-test = at-get2 .before in
     let at-loop = at-loop-test .before in
     let at-start = at-loop .before .before .before .before .before .before in
-    let z = (size-by (at-start .args .book .now) (at-loop .loop .at) _ (at-get24 .get24 .ensures)) in let to : (at-loop .loop .at) + (2 + (at-get24 .get24 .result)) ≡ nextAt (at-start .args .book .now) (at-loop .loop .at) = omega arith in pass-other (here at-loop-test) to (λ e. (at-match .match .rest) .0 .0 .1 ((at-get2 .get2 .ensures) ∙ e)) (λ e. (at-match .match .rest) .0 .1 ((at-get2 .get2 .ensures) ∙ e)) (λ e. (at-match .match .rest) .1 ((at-get2 .get2 .ensures) ∙ e))
+    let z = size-by (at-start .args .book .now) (at-loop .loop .at) _ (at-get24 .get24 .ensures) in
+    let to : (at-loop .loop .at) + (2 + (at-get24 .get24 .result)) ≡ nextAt (at-start .args .book .now) (at-loop .loop .at) = omega arith in
+    pass-other (here at-loop-test) to (λ e. (at-match .match .rest) .0 .0 .1 ((at-get2 .get2 .ensures) ∙ e))
+    (λ e. (at-match .match .rest) .0 .1 ((at-get2 .get2 .ensures) ∙ e)) (λ e. (at-match .match .rest) .1 ((at-get2 .get2 .ensures) ∙ e))
 
 same-length : At tie.Need-same-length
 same-length c =

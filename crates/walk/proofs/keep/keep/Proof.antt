@@ -39,7 +39,8 @@ cast-kept : tie.Need-cast-kept
 cast-kept c =
     let at-near = c .before .before in
     let at-start = at-near .before .before .before .before .before .before in
-    omega (arith, near-few ((at-start .args .book) .now) ((at-start .args .d) .0) ((at-start .args .d) .0 + 64 - 1) ((at-start .args .rules) .now), (at-near .near .ensures) .0, (at-start .pre) .1)
+    let args = at-start .args in
+    omega (arith, near-few (args .book .now) (args .d .0) ((args .d .0) + 64 - 1) (args .rules .now), (at-near .near .ensures .0), (at-start .pre .1))
 
 slice-write-kept-3 : tie.Need-slice-write-kept-3
 slice-write-kept-3 c =
@@ -54,7 +55,8 @@ returns : tie.Need-returns
 returns c =
     let at-near = c .before .before in
     let at-start = at-near .before .before .before .before .before .before in
-    kept-for ((at-start .args .kept) .now) _ ((at-start .pre) .0) (omega (arith, (at-start .pre) .1, (at-start .pre) .2)) refl ((at-near .near .ensures) .0) ((at-near .near .ensures) .1)
+    kept-for (at-start .args .kept .now) _ (at-start .pre .0) (omega (arith, (at-start .pre .1), (at-start .pre .2))) refl (at-near .near .ensures .0)
+    (at-near .near .ensures .1)
 
 pub keep-spec : {M : Type 1} → statement M
 keep-spec =

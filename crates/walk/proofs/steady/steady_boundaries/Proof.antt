@@ -45,7 +45,11 @@ mul-edges c =
     let at-loop = at-loop-test .before in
     let at-rule-points = at-loop .before in
     let at-start = at-rule-points .before .before .before in
-    let n = (at-rule-points .rule-points .ensures) in let t = (at-loop-test .loop-test .taken) in let l = (at-loop .loop .inv) .long in let p = (at-start .pre) .1 in omega (arith, n .2, t, l, p)
+    let n = at-rule-points .rule-points .ensures in
+    let t = at-loop-test .loop-test .taken in
+    let l = (at-loop .loop .inv) .long in
+    let p = (at-start .pre) .1 in
+    omega (arith, n .2, t, l, p)
 
 slice-write-edges : tie.Need-slice-write-edges Inv-loop μ-loop
 slice-write-edges c =
@@ -53,7 +57,11 @@ slice-write-edges c =
     let at-loop = at-loop-test .before in
     let at-rule-points = at-loop .before in
     let at-start = at-rule-points .before .before .before in
-    let n = (at-rule-points .rule-points .ensures) in let t = (at-loop-test .loop-test .taken) in let l = (at-loop .loop .inv) .long in let p = (at-start .pre) .1 in omega (arith, n .2, t, l, p)
+    let n = at-rule-points .rule-points .ensures in
+    let t = at-loop-test .loop-test .taken in
+    let l = (at-loop .loop .inv) .long in
+    let p = (at-start .pre) .1 in
+    omega (arith, n .2, t, l, p)
 
 add-i : tie.Need-add-i Inv-loop μ-loop
 add-i c =
@@ -61,7 +69,11 @@ add-i c =
     let at-loop = at-loop-test .before in
     let at-rule-points = at-loop .before in
     let at-start = at-rule-points .before .before .before in
-    let n = (at-rule-points .rule-points .ensures) in let t = (at-loop-test .loop-test .taken) in let l = (at-loop .loop .inv) .long in let p = (at-start .pre) .1 in omega (arith, n .2, t, l, p)
+    let n = at-rule-points .rule-points .ensures in
+    let t = at-loop-test .loop-test .taken in
+    let l = (at-loop .loop .inv) .long in
+    let p = (at-start .pre) .1 in
+    omega (arith, n .2, t, l, p)
 
 loop-less : tie.Need-loop-less Inv-loop μ-loop
 loop-less c =
@@ -76,7 +88,10 @@ loop-again c =
     let at-loop = at-loop-test .before in
     let at-rule-points = at-loop .before in
     let at-start = at-rule-points .before .before .before in
-    let n = (at-rule-points .rule-points .ensures) in shifting-next (ruleAt ((at-start .args .book) .now) ((at-start .args .rule))) ((at-start .args .midnight) .0) _ _ _ _ _ ((at-loop .loop .inv)) (omega (arith, n, (at-start .pre) .1)) (omega (arith, n)) _ (omega (arith, n .0, (at-loop-test .loop-test .taken))) ((at-point-time .point-time .ensures)) ((at-later .later .ensures))
+    let n = at-rule-points .rule-points .ensures in
+    shifting-next (ruleAt (at-start .args .book .now) (at-start .args .rule)) (at-start .args .midnight .0) _ _ _ _ _ (at-loop .loop .inv)
+    (omega (arith, n, (at-start .pre .1))) (omega (arith, n)) _ (omega (arith, n .0, (at-loop-test .loop-test .taken)))
+    (at-point-time .point-time .ensures) (at-later .later .ensures)
 
 add-later-2 : tie.Need-add-later-2 Inv-loop μ-loop
 add-later-2 c =
@@ -112,7 +127,9 @@ returns c =
     let at-loop = at-loop-test .before in
     let at-rule-points = at-loop .before in
     let at-start = at-rule-points .before .before .before in
-    let n = (at-rule-points .rule-points .ensures) in shifted (ruleAt ((at-start .args .book) .now) ((at-start .args .rule))) ((at-start .args .midnight) .0) _ _ _ _ _ ((at-loop .loop .inv)) (omega (arith, n, (at-start .pre) .1)) (omega (arith, n)) _ (n .0) ((at-loop-test .loop-test .left)) ((at-later2 .later2 .ensures))
+    let n = at-rule-points .rule-points .ensures in
+    shifted (ruleAt (at-start .args .book .now) (at-start .args .rule)) (at-start .args .midnight .0) _ _ _ _ _ (at-loop .loop .inv)
+    (omega (arith, n, (at-start .pre .1))) (omega (arith, n)) _ (n .0) (at-loop-test .loop-test .left) (at-later2 .later2 .ensures)
 
 pub steady-boundaries-spec : {M : Type 1} → statement M
 steady-boundaries-spec =

@@ -25,7 +25,9 @@ showing-requires c κs =
     let at-rule-points = at-showing-arg .before in
     let at-governed = at-rule-points .before .before .before in
     let at-start = at-governed .before .before .before in
-    let n = (at-rule-points .rule-points .ensures) in let m = held-next ((at-start .args .book) .now) (at-start .args .w) _ (at-start .pre) ((at-governed .governed .given) .1) in (omega (arith, n .0, m), omega (arith, n, (at-showing-arg .showing-arg .given)))
+    let n = at-rule-points .rule-points .ensures in
+    let m = held-next (at-start .args .book .now) (at-start .args .w) _ (at-start .pre) (at-governed .governed .given .1) in
+    (omega (arith, n .0, m), omega (arith, n, (at-showing-arg .showing-arg .given)))
 
 returns : tie.Need-returns
 returns c =
@@ -34,7 +36,9 @@ returns c =
     let at-rule-points = at-showing .before .before in
     let at-governed = at-rule-points .before .before .before in
     let at-start = at-governed .before .before .before in
-    looked-none ((at-start .args .book) .now) ((at-start .args .edges) .now) ((at-start .args .hi) .0) (at-start .args .w) ((at-governed .governed .given) .1) ((at-rule-points .rule-points .ensures) .0) (at-showing .showing .ensures) (at-if1 .if1 .taken)
+    let args = at-start .args in
+    looked-none (args .book .now) (args .edges .now) (args .hi .0) (args .w) (at-governed .governed .given .1)
+    (at-rule-points .rule-points .ensures .0) (at-showing .showing .ensures) (at-if1 .if1 .taken)
 
 mul-start : tie.Need-mul-start
 mul-start c = search needs
@@ -72,7 +76,10 @@ returns-3 c =
     let at-rule-points = at-showing .before .before in
     let at-governed = at-rule-points .before .before .before in
     let at-start = at-governed .before .before .before in
-    looked-one ((at-start .args .book) .now) ((at-start .args .edges) .now) ((at-start .args .hi) .0) (at-start .args .w) ((at-governed .governed .given) .1) ((at-rule-points .rule-points .ensures) .0) (at-showing .showing .ensures) (omega (arith, (at-if1 .if1 .left))) (piece-by ((at-start .args .edges) .now) ((at-start .args .hi) .0) (at-start .args .w) _ _ (at-later .later .ensures) (at-earlier .earlier .ensures))
+    let args = at-start .args in
+    looked-one (args .book .now) (args .edges .now) (args .hi .0) (args .w) (at-governed .governed .given .1)
+    (at-rule-points .rule-points .ensures .0) (at-showing .showing .ensures) (omega (arith, (at-if1 .if1 .left)))
+    (piece-by (args .edges .now) (args .hi .0) (args .w) _ _ (at-later .later .ensures) (at-earlier .earlier .ensures))
 
 pub here-spec : {M : Type 1} → statement M
 here-spec =

@@ -87,7 +87,8 @@ loop-again c =
     let at-later = at-earlier .before .before in
     let at-loop-test = at-later .before .before in
     let at-loop = at-loop-test .before in
-    hidden-next _ _ _ _ _ _ ((at-loop .loop .inv)) ((at-loop-test .loop-test .taken)) (omega (arith, (at-if1 .if1 .left), (at-later .later .ensures), (at-earlier .earlier .ensures)))
+    hidden-next _ _ _ _ _ _ (at-loop .loop .inv) (at-loop-test .loop-test .taken)
+    (omega (arith, (at-if1 .if1 .left), (at-later .later .ensures), (at-earlier .earlier .ensures)))
 
 returns-2 : tie.Need-returns-2 Inv-loop μ-loop
 returns-2 c =

@@ -19,14 +19,26 @@ returns c =
     let at-if1 = c in
     let at-onward = at-if1 .before .before .before in
     let at-start = at-onward .before .before .before .before .before .before .before .before in
-    ((leads ((at-start .args .book) .now) (zoneOf (at-start .args .first) ((at-start .args .ats) .now) ((at-start .args .offsets) .now)) (venueBy (zoneOf (at-start .args .first) ((at-start .args .ats) .now) ((at-start .args .offsets) .now)) (Governing.governing (map (ruleAt ((at-start .args .book) .now)) ((at-start .args .rules) .now)))) ((at-start .args .hi) .0) (at-start .args .w) ((at-start .pre) .3)) ∙ ends (venueBy (zoneOf (at-start .args .first) ((at-start .args .ats) .now) ((at-start .args .offsets) .now)) (Governing.governing (map (ruleAt ((at-start .args .book) .now)) ((at-start .args .rules) .now)))) ((at-start .args .hi) .0) ((at-start .args .w) .turns) ((at-start .args .w) .began .0) ((at-start .args .w) .cursor .0) ((at-start .args .w) .date .0) _ (at-onward .onward .ensures) (at-if1 .if1 .taken), (at-start .pre) .2)
+    let args = at-start .args in
+    let zoneOf-is = zoneOf (args .first) (args .ats .now) (args .offsets .now) in
+    let v = venueBy zoneOf-is (Governing.governing (map (ruleAt (args .book .now)) (args .rules .now))) in (
+      (leads (args .book .now) zoneOf-is v (args .hi .0) (args .w) (at-start .pre .3)) ∙ ends v (args .hi .0) (args .w .turns) (args .w .began .0)
+          (args .w .cursor .0) (args .w .date .0) _ (at-onward .onward .ensures) (at-if1 .if1 .taken),
+      (at-start .pre .2),
+    )
 
 sub-begin : tie.Need-sub-begin
 sub-begin c =
     let at-if1 = c .before .before in
     let at-onward = at-if1 .before .before .before in
     let at-start = at-onward .before .before .before .before .before .before .before .before in
-    omega (arith, more (venueBy (zoneOf (at-start .args .first) ((at-start .args .ats) .now) ((at-start .args .offsets) .now)) (Governing.governing (map (ruleAt ((at-start .args .book) .now)) ((at-start .args .rules) .now)))) ((at-start .args .hi) .0) ((at-start .args .w) .turns) ((at-start .args .w) .began .0) ((at-start .args .w) .cursor .0) ((at-start .args .w) .date .0) _ (at-onward .onward .ensures) (at-if1 .if1 .left))
+    let args = at-start .args in
+    omega (
+      arith,
+      more
+          (venueBy (zoneOf (args .first) (args .ats .now) (args .offsets .now)) (Governing.governing (map (ruleAt (args .book .now)) (args .rules .now))))
+          (args .hi .0) (args .w .turns) (args .w .began .0) (args .w .cursor .0) (args .w .date .0) _ (at-onward .onward .ensures) (at-if1 .if1 .left),
+    )
 
 begin-requires : tie.Need-begin-requires
 begin-requires c κs =

@@ -30,7 +30,13 @@ governing-near-requires c κs =
     let at-governing-near-arg = c in
     let at-date-of = at-governing-near-arg .before in
     let at-start = at-date-of .before .before .before .before .before .before in
-    ((at-start .pre) .1, (at-start .pre) .2, omega (arith, (at-governing-near-arg .governing-near-arg .given)), omega (arith, (at-date-of .date-of .ensures), date-small ((at-start .args .first)) ((at-start .args .ats) .now) ((at-start .args .offsets) .now) ((at-start .args .cursor) .0) ((at-start .pre) .0)))
+    let args = at-start .args in (
+      (at-start .pre .1),
+      (at-start .pre .2),
+      omega (arith, (at-governing-near-arg .governing-near-arg .given)),
+      omega
+          (arith, (at-date-of .date-of .ensures), date-small (args .first) (args .ats .now) (args .offsets .now) (args .cursor .0) (at-start .pre .0)),
+    )
 
 enum-told : tie.Need-enum-told
 enum-told c = search needs
@@ -46,7 +52,14 @@ date-boundaries-requires c κs =
     let at-date-of = at-governing-near .before .before in
     let at-steady-offset = at-date-of .before in
     let at-start = at-steady-offset .before .before .before .before .before in
-    ((at-start .pre) .0, stands-at ((at-start .args .book) .now) ((at-governing-near .governing-near .ensures) .1) ((at-governed .governed .given) .1), omega (arith, (at-date-boundaries-arg .date-boundaries-arg .given)), steady-on ((at-start .args .first)) ((at-start .args .ats) .now) ((at-start .args .offsets) .now) ((at-start .pre) .0) ((at-start .args .cursor) .0) _ ((at-steady-offset .steady-offset .ensures)) _ ((at-date-of .date-of .ensures)))
+    let args = at-start .args in (
+      (at-start .pre .0),
+      stands-at (args .book .now) (at-governing-near .governing-near .ensures .1) (at-governed .governed .given .1),
+      omega
+          (arith, (at-date-boundaries-arg .date-boundaries-arg .given)),
+      steady-on (args .first) (args .ats .now) (args .offsets .now) (at-start .pre .0)
+          (args .cursor .0) _ (at-steady-offset .steady-offset .ensures) _ (at-date-of .date-of .ensures),
+    )
 
 returns : tie.Need-returns
 returns c =
@@ -54,7 +67,13 @@ returns c =
     let at-governing-near = at-enum-told .before .before in
     let at-date-of = at-governing-near .before .before in
     let at-start = at-date-of .before .before .before .before .before .before in
-    (begun ((at-start .args .book) .now) (zoneOf (at-start .args .first) ((at-start .args .ats) .now) ((at-start .args .offsets) .now)) (governing (map (ruleAt ((at-start .args .book) .now)) ((at-start .args .rules) .now))) (at-start .args .turns) (at-start .args .cursor) _ _ true _ (at-date-of .date-of .ensures) ((at-governing-near .governing-near .ensures) .0) (kept-nothing ((at-start .args .book) .now) (zoneOf (at-start .args .first) ((at-start .args .ats) .now) ((at-start .args .offsets) .now)) _ true _ ((at-enum-told .enum-told .given) .1)), (at-governing-near .governing-near .ensures) .2)
+    let args = at-start .args in
+    let zoneOf-is = zoneOf (args .first) (args .ats .now) (args .offsets .now) in (
+      begun (args .book .now) zoneOf-is (governing (map (ruleAt (args .book .now)) (args .rules .now))) (args .turns) (args .cursor) _ _ true _
+          (at-date-of .date-of .ensures) (at-governing-near .governing-near .ensures .0)
+          (kept-nothing (args .book .now) zoneOf-is _ true _ (at-enum-told .enum-told .given .1)),
+      (at-governing-near .governing-near .ensures .2),
+    )
 
 returns-2 : tie.Need-returns-2
 returns-2 c =
@@ -63,7 +82,16 @@ returns-2 c =
     let at-governing-near = at-governed .before .before in
     let at-date-of = at-governing-near .before .before in
     let at-start = at-date-of .before .before .before .before .before .before in
-    (begun ((at-start .args .book) .now) (zoneOf (at-start .args .first) ((at-start .args .ats) .now) ((at-start .args .offsets) .now)) (governing (map (ruleAt ((at-start .args .book) .now)) ((at-start .args .rules) .now))) (at-start .args .turns) (at-start .args .cursor) (at-date-of .date-of .result) _ _ _ (at-date-of .date-of .ensures) (sym (ap (ruled ((at-start .args .book) .now)) ((at-governed .governed .given) .1)) ∙ (at-governing-near .governing-near .ensures) .0) (kept-rule ((at-start .args .book) .now) (zoneOf (at-start .args .first) ((at-start .args .ats) .now) ((at-start .args .offsets) .now)) ((at-date-of .date-of .result) .0) _ _ _ refl (stands-at ((at-start .args .book) .now) ((at-governing-near .governing-near .ensures) .1) ((at-governed .governed .given) .1)) ((at-date-boundaries .date-boundaries .ensures) .0) ((at-date-boundaries .date-boundaries .ensures) .1)), (at-governing-near .governing-near .ensures) .2)
+    let args = at-start .args in
+    let zoneOf-is = zoneOf (args .first) (args .ats .now) (args .offsets .now) in (
+      begun (args .book .now) zoneOf-is (governing (map (ruleAt (args .book .now)) (args .rules .now))) (args .turns) (args .cursor)
+          (at-date-of .date-of .result) _ _ _ (at-date-of .date-of .ensures)
+          (sym (ap (ruled (args .book .now)) (at-governed .governed .given .1)) ∙ (at-governing-near .governing-near .ensures) .0) (kept-rule
+          (args .book .now) zoneOf-is (at-date-of .date-of .result .0) _ _ _ refl
+          (stands-at (args .book .now) (at-governing-near .governing-near .ensures .1) (at-governed .governed .given .1))
+          (at-date-boundaries .date-boundaries .ensures .0) (at-date-boundaries .date-boundaries .ensures .1)),
+      (at-governing-near .governing-near .ensures .2),
+    )
 
 pub begin-spec : {M : Type 1} → statement M
 begin-spec =

@@ -27,7 +27,11 @@ rule-points-requires c κs =
 loop-holds : tie.Need-loop-holds Inv-loop μ-loop
 loop-holds c =
     let at-start = c .before .before .before .before .before in
-    (filling-none (zoneOf (at-start .args .first) ((at-start .args .ats) .now) ((at-start .args .offsets) .now)) (ruleAt ((at-start .args .book) .now) (at-start .args .rule)) ((at-start .args .d) .0) _, λ q j h. absurd (omega arith))
+    let args = at-start .args in (
+      filling-none (zoneOf (args .first) (args .ats .now) (args .offsets .now)) (ruleAt (args .book .now) (args .rule)) (args .d .0) _,
+      λ q j h. absurd
+          (omega arith),
+    )
 
 point-time-requires : tie.Need-point-time-requires Inv-loop μ-loop
 point-time-requires c κs =
@@ -53,7 +57,11 @@ mul-edges c =
     let at-loop = at-loop-test .before in
     let at-rule-points = at-loop .before in
     let at-start = at-rule-points .before .before .before .before .before in
-    let n = (at-rule-points .rule-points .ensures) in let t = (at-loop-test .loop-test .taken) in let l = (at-loop .loop .inv) .0 .long in let p = (at-start .pre) .2 in omega (arith, n .2, t, l, p)
+    let n = at-rule-points .rule-points .ensures in
+    let t = at-loop-test .loop-test .taken in
+    let l = (at-loop .loop .inv) .0 .long in
+    let p = (at-start .pre) .2 in
+    omega (arith, n .2, t, l, p)
 
 slice-write-edges : tie.Need-slice-write-edges Inv-loop μ-loop
 slice-write-edges c =
@@ -61,7 +69,11 @@ slice-write-edges c =
     let at-loop = at-loop-test .before in
     let at-rule-points = at-loop .before in
     let at-start = at-rule-points .before .before .before .before .before in
-    let n = (at-rule-points .rule-points .ensures) in let t = (at-loop-test .loop-test .taken) in let l = (at-loop .loop .inv) .0 .long in let p = (at-start .pre) .2 in omega (arith, n .2, t, l, p)
+    let n = at-rule-points .rule-points .ensures in
+    let t = at-loop-test .loop-test .taken in
+    let l = (at-loop .loop .inv) .0 .long in
+    let p = (at-start .pre) .2 in
+    omega (arith, n .2, t, l, p)
 
 add-i : tie.Need-add-i Inv-loop μ-loop
 add-i c =
@@ -69,7 +81,11 @@ add-i c =
     let at-loop = at-loop-test .before in
     let at-rule-points = at-loop .before in
     let at-start = at-rule-points .before .before .before .before .before in
-    let n = (at-rule-points .rule-points .ensures) in let t = (at-loop-test .loop-test .taken) in let l = (at-loop .loop .inv) .0 .long in let p = (at-start .pre) .2 in omega (arith, n .2, t, l, p)
+    let n = at-rule-points .rule-points .ensures in
+    let t = at-loop-test .loop-test .taken in
+    let l = (at-loop .loop .inv) .0 .long in
+    let p = (at-start .pre) .2 in
+    omega (arith, n .2, t, l, p)
 
 loop-less : tie.Need-loop-less Inv-loop μ-loop
 loop-less c =
@@ -86,7 +102,18 @@ loop-again c =
     let at-loop = at-loop-test .before in
     let at-rule-points = at-loop .before in
     let at-start = at-rule-points .before .before .before .before .before in
-    (filling-next (zoneOf (at-start .args .first) ((at-start .args .ats) .now) ((at-start .args .offsets) .now)) (ruleAt ((at-start .args .book) .now) (at-start .args .rule)) ((at-start .args .d) .0) _ _ _ _ _ ((at-loop .loop .inv) .0) (omega (arith, (at-rule-points .rule-points .ensures), (at-start .pre) .2)) (omega (arith, (at-rule-points .rule-points .ensures))) _ (omega (arith, (at-rule-points .rule-points .ensures) .0, (at-loop-test .loop-test .taken))) (at-later .later .ensures) (ap (λ (b : Boundary). b .at .0) ((at-to-utc-at .to-utc-at .ensures) ∙ ap (λ (x : ℕ). boundaryAt (zoneOf (at-start .args .first) ((at-start .args .ats) .now) ((at-start .args .offsets) .now)) (((at-start .args .d) .0)) x Exact) ((at-point-time .point-time .ensures) .0))), clear-next (zoneOf (at-start .args .first) ((at-start .args .ats) .now) ((at-start .args .offsets) .now)) (ruleAt ((at-start .args .book) .now) (at-start .args .rule)) ((at-start .args .d) .0) _ _ _ ((at-loop .loop .inv) .1) _ (ap (λ (b : Boundary). b .uncertainty) ((at-to-utc-at .to-utc-at .ensures) ∙ ap (λ (x : ℕ). boundaryAt (zoneOf (at-start .args .first) ((at-start .args .ats) .now) ((at-start .args .offsets) .now)) (((at-start .args .d) .0)) x Exact) ((at-point-time .point-time .ensures) .0))) (at-is-exact .is-exact .ensures))
+    let args = at-start .args in
+    let zoneOf-is = zoneOf (args .first) (args .ats .now) (args .offsets .now) in
+    let ruleAt-is = ruleAt (args .book .now) (args .rule) in (
+      filling-next zoneOf-is ruleAt-is (args .d .0) _ _ _ _ _ (at-loop .loop .inv .0)
+          (omega (arith, (at-rule-points .rule-points .ensures), (at-start .pre .2))) (omega (arith, (at-rule-points .rule-points .ensures))) _
+          (omega (arith, (at-rule-points .rule-points .ensures .0), (at-loop-test .loop-test .taken))) (at-later .later .ensures) (ap
+          (λ (b : Boundary). b .at .0)
+          ((at-to-utc-at .to-utc-at .ensures) ∙ ap (λ (x : ℕ). boundaryAt zoneOf-is (args .d .0) x Exact) (at-point-time .point-time .ensures .0))),
+      clear-next zoneOf-is ruleAt-is (args .d .0) _ _ _ (at-loop .loop .inv .1) _ (ap (λ (b : Boundary). b .uncertainty)
+          ((at-to-utc-at .to-utc-at .ensures) ∙ ap (λ (x : ℕ). boundaryAt zoneOf-is (args .d .0) x Exact) (at-point-time .point-time .ensures .0)))
+          (at-is-exact .is-exact .ensures),
+    )
 
 midnight-after-requires : tie.Need-midnight-after-requires Inv-loop μ-loop
 midnight-after-requires c κs =
@@ -127,7 +154,15 @@ returns c =
     let at-loop = at-loop-test .before in
     let at-rule-points = at-loop .before in
     let at-start = at-rule-points .before .before .before .before .before in
-    let n = (at-rule-points .rule-points .ensures) in (filled (zoneOf (at-start .args .first) ((at-start .args .ats) .now) ((at-start .args .offsets) .now)) (ruleAt ((at-start .args .book) .now) (at-start .args .rule)) ((at-start .args .d) .0) _ _ _ _ _ ((at-loop .loop .inv) .0) (omega (arith, n, (at-start .pre) .2)) (omega (arith, n)) _ _ (n .0) (at-loop-test .loop-test .left) (at-later2 .later2 .ensures) (ap (λ (b : Boundary). b .at .0) (at-midnight-after .midnight-after .ensures)), clear-all (zoneOf (at-start .args .first) ((at-start .args .ats) .now) ((at-start .args .offsets) .now)) (ruleAt ((at-start .args .book) .now) (at-start .args .rule)) ((at-start .args .d) .0) _ _ _ ((at-loop .loop .inv) .1) (omega (arith, n .0, (at-loop-test .loop-test .left))) _ (ap (λ (b : Boundary). b .uncertainty) (at-midnight-after .midnight-after .ensures)) (at-is-exact2 .is-exact2 .ensures))
+    let args = at-start .args in
+    let zoneOf-is = zoneOf (args .first) (args .ats .now) (args .offsets .now) in
+    let ruleAt-is = ruleAt (args .book .now) (args .rule) in
+    let n = at-rule-points .rule-points .ensures in (
+      filled zoneOf-is ruleAt-is (args .d .0) _ _ _ _ _ (at-loop .loop .inv .0) (omega (arith, n, (at-start .pre .2))) (omega (arith, n)) _ _ (n .0)
+          (at-loop-test .loop-test .left) (at-later2 .later2 .ensures) (ap (λ (b : Boundary). b .at .0) (at-midnight-after .midnight-after .ensures)),
+      clear-all zoneOf-is ruleAt-is (args .d .0) _ _ _ (at-loop .loop .inv .1) (omega (arith, n .0, (at-loop-test .loop-test .left))) _
+          (ap (λ (b : Boundary). b .uncertainty) (at-midnight-after .midnight-after .ensures)) (at-is-exact2 .is-exact2 .ensures),
+    )
 
 pub boundaries-spec : {M : Type 1} → statement M
 boundaries-spec =

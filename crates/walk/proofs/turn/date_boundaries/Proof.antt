@@ -29,8 +29,12 @@ steady-boundaries-requires : tie.Need-steady-boundaries-requires
 steady-boundaries-requires c κs =
     let at-steady-midnight = c .before in
     let at-steady = at-steady-midnight .before .before in
-    let at-start = at-steady .before .before .before .before .before .before in
-    ((at-start .pre) .1, (at-start .pre) .2, omega (arith, (at-steady-midnight .steady-midnight .ensures), midnight-fits (shifts-by ((at-steady .steady .given) .1) ((at-start .pre) .3) .0)))
+    let at-start = at-steady .before .before .before .before .before .before in (
+      (at-start .pre .1),
+      (at-start .pre .2),
+      omega
+          (arith, (at-steady-midnight .steady-midnight .ensures), midnight-fits (shifts-by (at-steady .steady .given .1) (at-start .pre .3) .0)),
+    )
 
 same-length : tie.Need-same-length
 same-length c = search needs

@@ -18,7 +18,9 @@ steady-day-requires : tie.Need-steady-day-requires
 steady-day-requires c κs =
     let at-steady = c .before in
     let at-start = at-steady .before .before .before .before in
-    cursor-on ((at-start .args .first)) ((at-start .args .ats) .now) ((at-start .args .offsets) .now) ((at-start .pre) .0) ((at-start .args .cursor) .0) ((at-start .pre) .1) ((at-steady .steady .given) .1)
+    let args = at-start .args in
+    cursor-on (args .first) (args .ats .now) (args .offsets .now) (at-start .pre .0) (args .cursor .0) (at-start .pre .1)
+    (at-steady .steady .given .1)
 
 returns : tie.Need-returns
 returns c =
@@ -30,7 +32,9 @@ returns-2 c =
     let at-steady-day = c in
     let at-steady = at-steady-day .before .before in
     let at-start = at-steady .before .before .before .before in
-    cursor-date ((at-start .args .first)) ((at-start .args .ats) .now) ((at-start .args .offsets) .now) ((at-start .pre) .0) ((at-start .args .cursor) .0) ((at-start .pre) .1) ((at-steady .steady .given) .1) ((at-steady-day .steady-day .ensures))
+    let args = at-start .args in
+    cursor-date (args .first) (args .ats .now) (args .offsets .now) (at-start .pre .0) (args .cursor .0) (at-start .pre .1)
+    (at-steady .steady .given .1) (at-steady-day .steady-day .ensures)
 
 pub date-of-spec : {M : Type 1} → statement M
 date-of-spec =

@@ -9,7 +9,9 @@ returns c =
     let at-offset-at = c in
     let at-nearest = at-offset-at .before in
     let at-start = at-nearest .before .before .before in
-    reading-by (zoneOf (at-start .args .first) ((at-start .args .ats) .now) ((at-start .args .offsets) .now)) ((at-start .args .t) .0) (at-nearest .nearest .result) (at-offset-at .offset-at .result) (at-nearest .nearest .ensures) ((at-offset-at .offset-at .ensures) .0)
+    let args = at-start .args in
+    reading-by (zoneOf (args .first) (args .ats .now) (args .offsets .now)) (args .t .0) (at-nearest .nearest .result)
+    (at-offset-at .offset-at .result) (at-nearest .nearest .ensures) (at-offset-at .offset-at .ensures .0)
 
 pub reading-of-spec : {M : Type 1} → statement M
 reading-of-spec =

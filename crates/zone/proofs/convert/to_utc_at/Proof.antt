@@ -11,8 +11,10 @@ returns c =
     let at-to-utc = at-taken .before in
     let at-reading-at = at-to-utc .before in
     let at-start = at-reading-at .before .before .before in
-    boundary-by (zoneOf (at-start .args .first) ((at-start .args .ats) .now) ((at-start .args .offsets) .now)) ((at-start .args .d) .0) (at-start .args .time) ((at-reading-at .reading-at .result) .0) (at-start .args .published) (at-uncertain .uncertain .result) (at-to-utc .to-utc .result)
-    ((at-taken .taken .result) .0) (at-reading-at .reading-at .ensures) (at-to-utc .to-utc .ensures) (at-taken .taken .ensures) (at-uncertain .uncertain .ensures)
+    let args = at-start .args in
+    boundary-by (zoneOf (args .first) (args .ats .now) (args .offsets .now)) (args .d .0) (args .time) (at-reading-at .reading-at .result .0)
+    (args .published) (at-uncertain .uncertain .result) (at-to-utc .to-utc .result) (at-taken .taken .result .0) (at-reading-at .reading-at .ensures)
+    (at-to-utc .to-utc .ensures) (at-taken .taken .ensures) (at-uncertain .uncertain .ensures)
 
 pub to-utc-at-spec : {M : Type 1} → statement M
 to-utc-at-spec =

@@ -42,7 +42,8 @@ returns c =
     let at-loop = at-loop-test .before in
     let at-passed = at-loop .before in
     let at-start = at-passed .before .before .before in
-    sym (ahead-late (at-start .pre) ((at-loop .loop .inv) .1 ((at-start .args .from) .0) (ahead-passed (at-start .pre) (at-passed .passed .ensures))) (omega (arith, (at-loop-test .loop-test .taken))) (at-if1 .if1 .taken))
+    sym (ahead-late (at-start .pre) ((at-loop .loop .inv .1) (at-start .args .from .0) (ahead-passed (at-start .pre) (at-passed .passed .ensures)))
+    (omega (arith, (at-loop-test .loop-test .taken))) (at-if1 .if1 .taken))
 
 sub-t12 : tie.Need-sub-t12 Inv-loop μ-loop
 sub-t12 c =
@@ -50,7 +51,12 @@ sub-t12 c =
     let at-loop = at-loop-test .before in
     let at-passed = at-loop .before in
     let at-start = at-passed .before .before .before in
-    omega (arith, ahead-at (at-start .pre) ((at-loop .loop .inv) .1 ((at-start .args .from) .0) (ahead-passed (at-start .pre) (at-passed .passed .ensures))) (omega (arith, (at-loop-test .loop-test .taken))))
+    omega (
+      arith,
+      ahead-at (at-start .pre)
+          ((at-loop .loop .inv .1) (at-start .args .from .0) (ahead-passed (at-start .pre) (at-passed .passed .ensures)))
+          (omega (arith, (at-loop-test .loop-test .taken))),
+    )
 
 reads-on-requires : tie.Need-reads-on-requires Inv-loop μ-loop
 reads-on-requires c κs =
@@ -72,7 +78,9 @@ returns-2 c =
     let at-loop = at-loop-test .before in
     let at-passed = at-loop .before in
     let at-start = at-passed .before .before .before in
-    sym (ahead-stops (at-start .pre) ((at-loop .loop .inv) .1 ((at-start .args .from) .0) (ahead-passed (at-start .pre) (at-passed .passed .ensures))) (omega (arith, (at-loop-test .loop-test .taken))) (at-if1 .if1 .left) (at-reads-on .reads-on .ensures) (at-reads-on2 .reads-on2 .ensures) (at-if2 .if2 .taken))
+    sym (ahead-stops (at-start .pre) ((at-loop .loop .inv .1) (at-start .args .from .0) (ahead-passed (at-start .pre) (at-passed .passed .ensures)))
+    (omega (arith, (at-loop-test .loop-test .taken))) (at-if1 .if1 .left) (at-reads-on .reads-on .ensures) (at-reads-on2 .reads-on2 .ensures)
+    (at-if2 .if2 .taken))
 
 add-k : tie.Need-add-k Inv-loop μ-loop
 add-k c =
@@ -94,8 +102,12 @@ loop-again c =
     let at-if1 = at-reads-on .before in
     let at-loop-test = at-if1 .before .before .before in
     let at-loop = at-loop-test .before in
-    let at-start = at-loop .before .before .before .before in
-    ((omega (arith, (at-loop-test .loop-test .taken))), λ a h. ahead-goes (at-start .pre) ((at-loop .loop .inv) .1 a h) (omega (arith, (at-loop-test .loop-test .taken))) (at-if1 .if1 .left) (at-reads-on .reads-on .ensures) (at-reads-on2 .reads-on2 .ensures) (at-if2 .if2 .left))
+    let at-start = at-loop .before .before .before .before in (
+      (omega (arith, (at-loop-test .loop-test .taken))),
+      λ a h. ahead-goes (at-start .pre) ((at-loop .loop .inv .1) a h)
+          (omega (arith, (at-loop-test .loop-test .taken))) (at-if1 .if1 .left) (at-reads-on .reads-on .ensures) (at-reads-on2 .reads-on2 .ensures)
+          (at-if2 .if2 .left),
+    )
 
 returns-3 : tie.Need-returns-3 Inv-loop μ-loop
 returns-3 c =
@@ -103,7 +115,8 @@ returns-3 c =
     let at-loop = at-loop-test .before in
     let at-passed = at-loop .before in
     let at-start = at-passed .before .before .before in
-    sym (ahead-end (at-start .pre) ((at-loop .loop .inv) .1 ((at-start .args .from) .0) (ahead-passed (at-start .pre) (at-passed .passed .ensures))) (omega (arith, (at-loop-test .loop-test .left))) ((at-loop .loop .inv) .0))
+    sym (ahead-end (at-start .pre) ((at-loop .loop .inv .1) (at-start .args .from .0) (ahead-passed (at-start .pre) (at-passed .passed .ensures)))
+    (omega (arith, (at-loop-test .loop-test .left))) (at-loop .loop .inv .0))
 
 pub reads-changes-spec : {M : Type 1} → statement M
 reads-changes-spec =

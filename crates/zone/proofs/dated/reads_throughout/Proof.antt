@@ -8,7 +8,8 @@ returns : tie.Need-returns
 returns c =
     let at-if1 = c in
     let at-start = at-if1 .before .before .before .before .before in
-    through-empty (zoneOf (at-start .args .first) ((at-start .args .ats) .now) ((at-start .args .offsets) .now)) ((at-start .args .d) .0) ((at-start .args .from) .0) ((at-start .args .to) .0) (at-if1 .if1 .taken)
+    let args = at-start .args in
+    through-empty (zoneOf (args .first) (args .ats .now) (args .offsets .now)) (args .d .0) (args .from .0) (args .to .0) (at-if1 .if1 .taken)
 
 reads-on-requires : tie.Need-reads-on-requires
 reads-on-requires c κs = search needs
@@ -29,7 +30,9 @@ returns-2 c =
     let at-reads-on = at-reads-on2 .before .before in
     let at-if1 = at-reads-on .before in
     let at-start = at-if1 .before .before .before .before .before in
-    through-all (zoneOf (at-start .args .first) ((at-start .args .ats) .now) ((at-start .args .offsets) .now)) ((at-start .args .d) .0) ((at-start .args .from) .0) ((at-start .args .to) .0) (at-if1 .if1 .left) (at-reads-on .reads-on .ensures) (at-reads-on2 .reads-on2 .ensures) (at-reads-changes .reads-changes .ensures)
+    let args = at-start .args in
+    through-all (zoneOf (args .first) (args .ats .now) (args .offsets .now)) (args .d .0) (args .from .0) (args .to .0) (at-if1 .if1 .left)
+    (at-reads-on .reads-on .ensures) (at-reads-on2 .reads-on2 .ensures) (at-reads-changes .reads-changes .ensures)
 
 pub reads-throughout-spec : {M : Type 1} → statement M
 reads-throughout-spec =

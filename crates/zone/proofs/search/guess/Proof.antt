@@ -37,7 +37,11 @@ mul-even : tie.Need-mul-even
 mul-even c =
     let at-if2 = c .before .before .before .before in
     let at-start = at-if2 .before .before in
-    omega (arith, even-fits (((at-start .args .t) - getD ((at-start .args .ats) .now) 0 0) / 4294967296) (length ((at-start .args .ats) .now)) (omega (arith, at-start .fits .t)) (omega (arith, (at-if2 .if2 .left))))
+    omega (
+      arith,
+      even-fits (((at-start .args .t) - getD (at-start .args .ats .now) 0 0) / 4294967296) (length (at-start .args .ats .now))
+          (omega (arith, at-start .fits .t)) (omega (arith, (at-if2 .if2 .left))),
+    )
 
 add-even : tie.Need-add-even
 add-even c =

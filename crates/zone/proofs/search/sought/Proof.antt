@@ -27,7 +27,8 @@ bisected-requires c κs =
     let at-if1 = at-last-at .before in
     let at-guess = at-if1 .before in
     let at-start = at-guess .before .before in
-    between-one ((at-start .args .ats) .now) (at-start .args .t) (at-guess .guess .result) _ _ (at-if1 .if1 .taken) (at-last-at .last-at .ensures) (at-next-at .next-at .ensures) (at-if2 .if2 .taken)
+    between-one (at-start .args .ats .now) (at-start .args .t) (at-guess .guess .result) _ _ (at-if1 .if1 .taken) (at-last-at .last-at .ensures)
+    (at-next-at .next-at .ensures) (at-if2 .if2 .taken)
 
 returns : tie.Need-returns
 returns c = search needs

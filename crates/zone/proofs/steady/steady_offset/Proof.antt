@@ -15,14 +15,17 @@ returns : tie.Need-returns
 returns c =
     let at-if1 = c in
     let at-start = at-if1 .before .before .before .before in
-    sym (steady-early ((zoneOf (at-start .args .first) (((at-start .args .ats) .now)) (((at-start .args .offsets) .now)))) (((at-start .args .from) .0)) (((at-start .args .to) .0)) (at-if1 .if1 .taken))
+    let args = at-start .args in
+    sym (steady-early (zoneOf (args .first) (args .ats .now) (args .offsets .now)) (args .from .0) (args .to .0) (at-if1 .if1 .taken))
 
 returns-2 : tie.Need-returns-2
 returns-2 c =
     let at-if2 = c in
     let at-if1 = at-if2 .before .before in
     let at-start = at-if1 .before .before .before .before in
-    sym (steady-late ((zoneOf (at-start .args .first) (((at-start .args .ats) .now)) (((at-start .args .offsets) .now)))) (((at-start .args .from) .0)) (((at-start .args .to) .0)) (at-if1 .if1 .left) (at-if2 .if2 .taken))
+    let args = at-start .args in
+    sym
+    (steady-late (zoneOf (args .first) (args .ats .now) (args .offsets .now)) (args .from .0) (args .to .0) (at-if1 .if1 .left) (at-if2 .if2 .taken))
 
 sub-passed : tie.Need-sub-passed
 sub-passed c = search needs
@@ -44,8 +47,13 @@ returns-3 c =
     let at-if2 = at-passed .before .before in
     let at-if1 = at-if2 .before .before in
     let at-start = at-if1 .before .before .before .before in
-    let near = next-near (((at-start .args .ats) .now)) (at-passed .passed .result) ((((at-start .args .to) .0)) + marginNs) (subst (λ (r : ℕ). r ≤ (((at-start .args .to) .0)) + marginNs) (at-next-at .next-at .ensures) (at-if3 .if3 .taken)) (omega arith) in
-    sym (steady-not ((zoneOf (at-start .args .first) (((at-start .args .ats) .now)) (((at-start .args .offsets) .now)))) (((at-start .args .from) .0)) (((at-start .args .to) .0)) (at-if1 .if1 .left) (at-if2 .if2 .left) (none-false ((((at-start .args .from) .0)) - marginNs) ((((at-start .args .to) .0)) + marginNs) (at-passed .passed .result) (((at-start .args .ats) .now)) (((at-start .args .offsets) .now)) ((at-start .pre) .spaced) ((at-start .pre) .alike) (at-passed .passed .ensures) (near .0) (near .1)))
+    let args = at-start .args in
+    let start-to-0--arginNs = (args .to .0) + marginNs in
+    let near = next-near (args .ats .now) (at-passed .passed .result) start-to-0--arginNs
+    (subst (λ (r : ℕ). r ≤ (args .to .0) + marginNs) (at-next-at .next-at .ensures) (at-if3 .if3 .taken)) (omega arith) in
+    sym (steady-not (zoneOf (args .first) (args .ats .now) (args .offsets .now)) (args .from .0) (args .to .0) (at-if1 .if1 .left) (at-if2 .if2 .left)
+    (none-false ((args .from .0) - marginNs) start-to-0--arginNs (at-passed .passed .result) (args .ats .now) (args .offsets .now)
+    (at-start .pre .spaced) (at-start .pre .alike) (at-passed .passed .ensures) (near .0) (near .1)))
 
 offset-after-requires : tie.Need-offset-after-requires
 offset-after-requires c κs = search needs
@@ -59,10 +67,18 @@ returns-4 c =
     let at-if2 = at-passed .before .before in
     let at-if1 = at-if2 .before .before in
     let at-start = at-if1 .before .before .before .before in
-    let far = next-far (((at-start .args .ats) .now)) (at-passed .passed .result) ((((at-start .args .to) .0)) + marginNs) (subst (λ (r : ℕ). (((at-start .args .to) .0)) + marginNs < r) (at-next-at .next-at .ensures) (at-if3 .if3 .left)) in
-    let none = none-true ((((at-start .args .from) .0)) - marginNs) ((((at-start .args .to) .0)) + marginNs) (at-passed .passed .result) (((at-start .args .ats) .now)) (((at-start .args .offsets) .now)) ((at-start .pre) .spaced) (at-passed .passed .ensures) (omega arith) (omega arith) far in
-    let is = offset-passed ((((at-start .args .from) .0)) - marginNs) (at-start .args .first) (at-passed .passed .result) (((at-start .args .ats) .now)) (((at-start .args .offsets) .now)) ((at-start .pre) .spaced) ((at-start .pre) .alike) (at-passed .passed .ensures) in
-    ap By (at-offset-after .offset-after .ensures) ∙ sym (steady-by ((zoneOf (at-start .args .first) (((at-start .args .ats) .now)) (((at-start .args .offsets) .now)))) (((at-start .args .from) .0)) (((at-start .args .to) .0)) _ (at-if1 .if1 .left) (at-if2 .if2 .left) none is)
+    let start-offsets = at-start .args .offsets .now in
+    let args = at-start .args in
+    let start-from-0--arginNs = (args .from .0) - marginNs in
+    let start-to-0--arginNs = (args .to .0) + marginNs in
+    let far = next-far (args .ats .now) (at-passed .passed .result) start-to-0--arginNs
+    (subst (λ (r : ℕ). (args .to .0) + marginNs < r) (at-next-at .next-at .ensures) (at-if3 .if3 .left)) in
+    let none = none-true start-from-0--arginNs start-to-0--arginNs (at-passed .passed .result) (args .ats .now) start-offsets (at-start .pre .spaced)
+    (at-passed .passed .ensures) (omega arith) (omega arith) far in
+    let is = offset-passed start-from-0--arginNs (args .first) (at-passed .passed .result) (args .ats .now) start-offsets (at-start .pre .spaced)
+    (at-start .pre .alike) (at-passed .passed .ensures) in
+    ap By (at-offset-after .offset-after .ensures) ∙ sym
+    (steady-by (zoneOf (args .first) (args .ats .now) start-offsets) (args .from .0) (args .to .0) _ (at-if1 .if1 .left) (at-if2 .if2 .left) none is)
 
 pub steady-offset-spec : {M : Type 1} → statement M
 steady-offset-spec =

@@ -38,21 +38,27 @@ returns-3 c =
     let at-loop = at-if3 .before .before .before .before in
     let at-if1 = at-loop .before .before in
     let at-start = at-if1 .before in
-    simp (le-leb _ _ (at-if1 .if1 .left)) (sym (sym (at-loop .loop .inv .2) ∙ valid-stops (at-loop .loop .least) (((at-start .args .ats) .now)) (((at-start .args .offsets) .now)) (at-loop .loop .i) (omega arith) (omega arith) (not-true _ (at-if3 .if3 .taken))))
+    simp (le-leb _ _ (at-if1 .if1 .left)) (sym (sym (at-loop .loop .inv .2) ∙ valid-stops (at-loop .loop .least) (at-start .args .ats .now)
+    (at-start .args .offsets .now) (at-loop .loop .i) (omega arith) (omega arith) (not-true _ (at-if3 .if3 .taken))))
 
 add-least : tie.Need-add-least Inv-loop μ-loop
 add-least c =
     let at-if3 = c in
     let at-loop = at-if3 .before .before .before .before in
     let at-start = at-loop .before .before .before in
-    omega (arith, ((valid-goes (at-loop .loop .least) (((at-start .args .ats) .now)) (((at-start .args .offsets) .now)) (at-loop .loop .i) (omega arith) (omega arith) (not-false _ (at-if3 .if3 .left)))) .0)
+    omega (
+      arith,
+      (valid-goes (at-loop .loop .least) (at-start .args .ats .now) (at-start .args .offsets .now) (at-loop .loop .i) (omega arith)
+          (omega arith) (not-false _ (at-if3 .if3 .left))) .0,
+    )
 
 loop-again : tie.Need-loop-again Inv-loop μ-loop
 loop-again c =
     let at-if3 = c in
     let at-loop = at-if3 .before .before .before .before in
     let at-start = at-loop .before .before .before in
-    let on = (valid-goes (at-loop .loop .least) (((at-start .args .ats) .now)) (((at-start .args .offsets) .now)) (at-loop .loop .i) (omega arith) (omega arith) (not-false _ (at-if3 .if3 .left))) in
+    let on = valid-goes (at-loop .loop .least) (at-start .args .ats .now) (at-start .args .offsets .now) (at-loop .loop .i) (omega arith)
+    (omega arith) (not-false _ (at-if3 .if3 .left)) in
     (omega arith, omega (arith, on .0), on .1 ∙ (at-loop .loop .inv .2))
 
 returns-4 : tie.Need-returns-4 Inv-loop μ-loop
@@ -61,7 +67,8 @@ returns-4 c =
     let at-if2 = at-loop .before in
     let at-if1 = at-if2 .before in
     let at-start = at-if1 .before in
-    simp (le-leb _ _ (at-if1 .if1 .left)) (sym (sym (at-loop .loop .inv .2) ∙ valid-end (at-loop .loop .least) (((at-start .args .ats) .now)) (((at-start .args .offsets) .now)) (at-loop .loop .i) (omega arith) (at-if2 .if2 .left)))
+    simp (le-leb _ _ (at-if1 .if1 .left)) (sym (sym (at-loop .loop .inv .2) ∙ valid-end (at-loop .loop .least) (at-start .args .ats .now)
+    (at-start .args .offsets .now) (at-loop .loop .i) (omega arith) (at-if2 .if2 .left)))
 
 pub is-valid-spec : {M : Type 1} → statement M
 is-valid-spec =

@@ -18,7 +18,8 @@ returns-2 c =
     let at-a = at-bound-nanos2 .before .before in
     let at-bound-nanos = at-a .before .before in
     let at-start = at-bound-nanos .before in
-    widest-by (at-start .args .left) (at-start .args .right) _ _ _ _ (at-bound-nanos .bound-nanos .ensures) (at-a .a .given .1) (at-bound-nanos2 .bound-nanos2 .ensures) (at-enum-told2 .enum-told2 .given .1)
+    widest-by (at-start .args .left) (at-start .args .right) _ _ _ _ (at-bound-nanos .bound-nanos .ensures) (at-a .a .given .1)
+    (at-bound-nanos2 .bound-nanos2 .ensures) (at-enum-told2 .enum-told2 .given .1)
 
 returns-3 : tie.Need-returns-3
 returns-3 c =
@@ -28,7 +29,8 @@ returns-3 c =
     let at-a = at-bound-nanos2 .before .before in
     let at-bound-nanos = at-a .before .before in
     let at-start = at-bound-nanos .before in
-    let e = widest-by (at-start .args .left) (at-start .args .right) _ _ _ _ (at-bound-nanos .bound-nanos .ensures) (at-a .a .given .1) (at-bound-nanos2 .bound-nanos2 .ensures) (at-b .b .given .1) in
+    let e = widest-by (at-start .args .left) (at-start .args .right) _ _ _ _ (at-bound-nanos .bound-nanos .ensures) (at-a .a .given .1)
+    (at-bound-nanos2 .bound-nanos2 .ensures) (at-b .b .given .1) in
     simp (le-leb _ _ (at-if1 .if1 .taken)) at e
 
 returns-4 : tie.Need-returns-4
@@ -39,7 +41,8 @@ returns-4 c =
     let at-a = at-bound-nanos2 .before .before in
     let at-bound-nanos = at-a .before .before in
     let at-start = at-bound-nanos .before in
-    let e = widest-by (at-start .args .left) (at-start .args .right) _ _ _ _ (at-bound-nanos .bound-nanos .ensures) (at-a .a .given .1) (at-bound-nanos2 .bound-nanos2 .ensures) (at-b .b .given .1) in
+    let e = widest-by (at-start .args .left) (at-start .args .right) _ _ _ _ (at-bound-nanos .bound-nanos .ensures) (at-a .a .given .1)
+    (at-bound-nanos2 .bound-nanos2 .ensures) (at-b .b .given .1) in
     simp (lt-leb _ _ (at-if1 .if1 .left)) at e
 
 pub widest-spec : {M : Type 1} → statement M
