@@ -15,10 +15,16 @@ use Rattle.rows.specs.Rows.{Seen, segments, rowRefusal}
 use Rattle.board.specs.Classes.{shownAt}
 use Rattle.board.specs.declared.grid.Grid.{Grid}
 
+abbrev pub fewestColumns : ℕ
+fewestColumns = 12
+
+abbrev pub mostColumns : ℕ
+mostColumns = 512
+
 -- columns below 12, negative ones too, become 12
 abbrev pub columnsOf : ℤ → ℕ
-columnsOf (pos n) = max 12 n
-columnsOf (negsuc n) = 12
+columnsOf (pos n) = max fewestColumns n
+columnsOf (negsuc n) = fewestColumns
 
 -- cell c shows the instant start + floor(span x c / columns)
 abbrev pub cellInstant : Grid → ℕ → ℕ
@@ -64,7 +70,7 @@ text row start end columns marked at = drawn (gridOf start end (columnsOf column
 
 -- 14: columns over 512; 15: bad bytes
 abbrev pub judgedCells : List ℕ → ℤ → ℕ
-judgedCells row columns = refuse (ltb 512 (columnsOf columns)) 14 (rowRefusal row)
+judgedCells row columns = refuse (ltb mostColumns (columnsOf columns)) 14 (rowRefusal row)
 
 -- 10: an edge, or a now that counts, outside its range; 11 and 12 of the window; then the others
 unfoldable pub cellsNumber : List ℕ → ℤ → ℤ → ℤ → Bool → ℤ → ℕ

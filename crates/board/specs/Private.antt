@@ -13,7 +13,7 @@ use Rattle.rows.specs.declared.Shows.{Shows}
 use Rattle.rows.specs.declared.Shows.the-variants.{Phase, Unknown}
 use Rattle.rows.specs.declared.Segment.{Segment}
 use Rattle.board.specs.Classes.{classOf, classAt, numberOf, one}
-use Rattle.board.specs.Cells.{cellInstant, cellOr}
+use Rattle.board.specs.Cells.{mostColumns, cellInstant, cellOr}
 use Rattle.board.specs.declared.Class.{Class}
 use Rattle.board.specs.declared.Class.the-variants.{Trading, NotTrading, NotKnown, NotShown}
 use Rattle.board.specs.declared.classing.Classed.{Classed}
@@ -85,7 +85,7 @@ pub record Counted (rs : List Row) (t : ℕ) (r : Counts) : Type 0 where
 -- a window that is not empty, cut into columns
 pub record Good (g : Grid) : Type 0 where
   pub some : 0 < g .columns
-  pub few : g .columns ≤ 512
+  pub few : g .columns ≤ mostColumns
   pub long : 0 < g .span
   pub end : g .start + g .span < 2 ^ 64
 
@@ -106,7 +106,7 @@ amount span a = a .whole * span + a .part
 
 pub record Small (span : ℕ) (a : Mixed) : Type 0 where
   pub part : a .part < span
-  pub few : a .whole ≤ 512
+  pub few : a .whole ≤ mostColumns
 
 pub record Sum (span : ℕ) (a b r : Mixed) : Type 0 where
   pub same : amount span r ≡ amount span a + amount span b

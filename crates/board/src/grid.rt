@@ -2,7 +2,7 @@
 // not made: quotients and remainders give the floor of the true product.
 ghost use Prim.Native.Nat.{_+_, _*_, _/_, _≤_, _<_};
 ghost use mathlib.Core.Path.{_≡_};
-ghost use Rattle.board.specs.Cells.{columnsOf, markerColumn};
+ghost use Rattle.board.specs.Cells.{mostColumns, columnsOf, markerColumn};
 ghost use Rattle.board.specs.Private.{Good, PaceOf, ColumnOf, Small, Sum};
 use wire::Placed;
 use wire::place;
@@ -103,7 +103,7 @@ fn plus(a: Mixed, b: Mixed, span: u64) -> Mixed
 
 // floor(gone x columns / span) of what is gone of a span. Where the product may not fit, by doubling: a step for each bit of the columns.
 fn share(gone: u64, columns: u64, span: u64) -> u64
-    requires { ⌜ (gone < span) × (columns ≤ 512) ⌝ }
+    requires { ⌜ (gone < span) × (columns ≤ mostColumns) ⌝ }
     ensures { λ r. ⌜ r ≡ gone * columns / span ⌝ }
 {
     if gone <= SHORT {
@@ -126,7 +126,7 @@ fn share(gone: u64, columns: u64, span: u64) -> u64
 }
 
 pub(crate) fn marker_of(start: Placed, end: Placed, columns: u64, marked: bool, at: Placed) -> u64
-    requires { ⌜ columns ≤ 512 ⌝ }
+    requires { ⌜ columns ≤ mostColumns ⌝ }
     ensures { λ r. ⌜ r ≡ markerColumn (start .0) (end .0) columns marked (at .0) ⌝ }
 {
     if !marked {

@@ -34,7 +34,8 @@ use Rattle.point.specs.Said.{pointMark, pointSaid}
 use Rattle.point.proofs.Said.{point-said}
 use Rattle.plain.specs.Books.{Names, window, Plain}
 use Rattle.plain.proofs.Tallied.{phase-instants, outside-instants, hole-instants}
-use Rattle.tally.specs.Tallying.{rowEnd, rowsFrom, rowsOf, rowTotals, dayForm, formsBy, tallyAnswer, tooLong, tallyNumber}
+use Rattle.pages.specs.Rows.{rowEnd, rowsFrom, rowsOf, rowTotals, dayForm, formsBy}
+use Rattle.tally.specs.Tallying.{tallyAnswer, tooLong, tallyNumber}
 
 -- an instant's number, turned back
 number-instant : (t : ℕ) → instantOf (instantNumber t) ≡ t

@@ -30,12 +30,16 @@ pub record PlainDate {A : Type 0} (v : Venue A) (d : ℕ) : Type 0 where
 
 -- ---- plain windows
 
+-- the most dates of a run
+abbrev pub longestRun : ℕ
+longestRun = 3660
+
 -- A window is plain when its midnights enclose it over a run of at most 3,660 consecutive plain dates, with a plain date on each side. The
 -- run is of `count` dates from `first` on.
 pub record PlainWindow {A : Type 0} (v : Venue A) (w : Part) : Type 0 where
   pub first : ℕ
   pub count : ℕ
-  pub few : count ≤ 3660
+  pub few : count ≤ longestRun
   pub run : (d : ℕ) → first ≤ d → d < first + count → PlainDate v d
   pub opens : midnight v first ≤ w .start
   pub closes : w .end ≤ midnight v (first + count)

@@ -30,9 +30,11 @@ use Rattle.lend.specs.declared.Reply.{Reply}
 use Rattle.lend.proofs.Replies.{lent-refused, lent-short, lent-written, lent-same, lent-reply}
 use Rattle.timeline.specs.Segments.{segments, timelineOf}
 use Rattle.timeline.specs.Asking.{segmentsBy, windowNumber}
-use Rattle.tally.specs.Tallying.{rowsOf, formsBy, tallyAnswer, mostNs, tooLong, tallyNumber}
-use Rattle.tally.specs.Private.{marks, rawBlank, rawOf, rawForms}
-use Rattle.tally.proofs.Paging.{forms-long}
+use Rattle.pages.specs.Rows.{rowsOf, formsBy, mostNs}
+use Rattle.tally.specs.Tallying.{tallyAnswer, tooLong, tallyNumber}
+use Rattle.pages.specs.Pages.{marks, rawForms}
+use Rattle.tally.specs.Private.{rawBlank, rawOf}
+use Rattle.pages.proofs.Paging.{forms-long}
 use Rattle.tally.proofs.Raw.{raw-total, blank-total, same-forms}
 
 -- ---- a window that is too long, too little room, the answer

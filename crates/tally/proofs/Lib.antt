@@ -1,5 +1,3 @@
-pub mod Counting
-pub mod Paging
 pub mod Passing
 pub mod Raw
 pub mod Closing

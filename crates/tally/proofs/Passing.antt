@@ -28,10 +28,11 @@ use Rattle.walk.specs.declared.Turned.{Turned}
 use Rattle.walk.specs.declared.Turned.the-variants.{Done as Turned·Done, On}
 use Rattle.walk.proofs.Looking.{looked-shown, looked-comes}
 use Rattle.answer.specs.Forms.{encodeAll}
-use Rattle.tally.specs.Tallying.{rowsOf}
-use Rattle.tally.specs.Private.{stretchOf, heldMark, rawBlank, rawOf, rawForms, Slot, Ahead, Ordered, Standing, Coming, Counted, Ending, Ended, First}
-use Rattle.tally.specs.declared.Page.{Page}
-use Rattle.tally.proofs.Paging.{unknown-slot, first-standing}
+use Rattle.pages.specs.Rows.{rowsOf}
+use Rattle.pages.specs.Pages.{stretchOf, rawForms, Slot, Ahead, Ordered, Standing, Coming, Counted, Ending, Ended, First}
+use Rattle.tally.specs.Private.{heldMark, rawBlank, rawOf, walked, AllCounted}
+use Rattle.pages.specs.declared.Page.{Page}
+use Rattle.pages.proofs.Paging.{unknown-slot, first-standing}
 
 -- ---- the stretches of a window are in order
 
@@ -72,24 +73,27 @@ raw-ordered v start end c h = go (decLe lo hi)
         let z = walk-none (venueOf v) hi turns lo (omega arith) in
         rw z (omega arith, (omega arith, tt), (omega arith, tt, tt))
 
--- ---- a venue without data
+-- ---- the last stretch
 
-module _ {start end : ℕ} {room : List ℕ} (h : start < end) (fits : Inside 0 (100 * (length (rowsOf start end) + 1)) room) {p : Page} {row whole : List ℕ} (f : First start end p row whole) where
-  blank-first : Standing (rawBlank start end) (rawBlank start end) start end room room p row whole
-  blank-first = first-standing (rawBlank start end) h (blank-ordered start end) (omega (arith, fits)) f
+module _ {start end after : ℕ} {all : List (Span Mark)} {room now : List ℕ} {p : Page} {row whole : List ℕ}
+    (x : Standing all (stretchOf after end unknown ∷ []) start end room now p row whole) where
+  pub last-coming : Coming now p start end after end 8 row whole
+  last-coming = record { all = all; left = []; room = room; mark = unknown; is = unknown-slot; stands = x }
 
-  pub blank-coming : Coming room p start end start end 8 row whole
-  blank-coming = record { all = rawBlank start end; left = []; room = room; mark = unknown; is = unknown-slot; stands = blank-first }
+  module _ {now1 : List ℕ} {p1 : Page} {row1 whole1 : List ℕ} (k : Counted now p start end after end 8 row whole now1 p1 row1 whole1) where
+    last-counted : Standing all [] start end room now1 p1 row1 whole1
+    last-counted = k .on all [] room unknown unknown-slot x
 
-  module _ {now1 : List ℕ} {p1 : Page} {row1 whole1 : List ℕ} (k : Counted room p start end start end 8 row whole now1 p1 row1 whole1) where
-    blank-counted : Standing (rawBlank start end) [] start end room now1 p1 row1 whole1
-    blank-counted = k .on (rawBlank start end) [] room unknown unknown-slot blank-first
+    pub last-ending : Ending now1 p1 start end row1 whole1
+    last-ending = record { all = all; room = room; stands = last-counted }
 
-    pub blank-ending : Ending now1 p1 start end row1 whole1
-    blank-ending = record { all = rawBlank start end; room = room; stands = blank-counted }
+    pub last-put : {now2 : List ℕ} {r : ℕ} → Ended now1 p1 start end row1 whole1 now2 r → Put room 0 (encodeAll (rawForms all start end)) r now2 r
+    last-put e = e .on all room last-counted
 
-    pub blank-put : {now2 : List ℕ} {r : ℕ} → Ended now1 p1 start end row1 whole1 now2 r → Put room 0 (encodeAll (rawForms (rawBlank start end) start end)) r now2 r
-    blank-put e = e .on (rawBlank start end) room blank-counted
+-- a venue without data has no other
+pub blank-first : {start end : ℕ} {room : List ℕ} → start < end → Inside 0 (100 * (length (rowsOf start end) + 1)) room → {p : Page} {row whole : List ℕ} → First start end p row whole
+    → Standing (rawBlank start end) (rawBlank start end) start end room room p row whole
+blank-first {start} {end} h fits f = first-standing (rawBlank start end) h (blank-ordered start end) (omega (arith, fits)) f
 
 -- ---- the walk's pieces
 
@@ -129,6 +133,11 @@ module _ (s : List ℕ) (first : ℕ) (ats offsets rules : List ℕ) (hi : ℕ) 
 
   pub pieces-begun : {lo : ℕ} {w : Walk} {a : List ℕ} → Begun s z (venueBy z g) 3659 lo w a → pieces w ≡ map heldMark (walk (venueBy z g) hi turns lo)
   pieces-begun b = ap (map heldMark) (b .all hi)
+
+  pub walk-standing : {lo : ℕ} {w : Walk} {a : List ℕ} → Begun s z (venueBy z g) 3659 lo w a → (last : List (Span Mark)) {start end : ℕ} {all : List (Span Mark)} {room now : List ℕ} {p : Page} {row whole : List ℕ}
+      → Standing all (walked s first ats offsets rules lo hi ++ last) start end room now p row whole → Standing all (pieces w ++ last) start end room now p row whole
+  walk-standing b last {start} {end} {all} {room} {now} {p} {row} {whole} x =
+      subst (λ (l : List (Span Mark)). Standing all (l ++ last) start end room now p row whole) (sym (pieces-begun b)) x
 
   -- pieces are counted while the walk goes on
   pub record Walked (start end : ℕ) (w : Walk) (now : List ℕ) (p : Page) (row whole : List ℕ) (w′ : Walk) (now′ : List ℕ) (p′ : Page) (row′ whole′ : List ℕ) : Type 0 where
@@ -182,25 +191,13 @@ module _ (s : List ℕ) (first : ℕ) (ats offsets rules : List ℕ) (hi : ℕ) 
       pub turn-less : length (pieces w2) + w2 .turns < length (pieces w1) + w1 .turns
       turn-less = let m = ap length turn-pieces in omega (arith, m, l .fewer)
 
-    -- the walk is done
-    module _ (done : pieces w1 ≡ []) {after : ℕ} {all : List (Span Mark)} {room : List ℕ}
-        (x : Standing all (pieces w ++ (stretchOf after end unknown ∷ [])) start end room now p row whole) where
-      done-standing : Standing all (stretchOf after end unknown ∷ []) start end room now1 p1 row1 whole1
-      done-standing =
-          subst (λ (l : List (Span Mark)). Standing all (l ++ (stretchOf after end unknown ∷ [])) start end room now1 p1 row1 whole1) done (r .on all (stretchOf after end unknown ∷ []) room x)
-
-      pub done-coming : Coming now1 p1 start end after end 8 row1 whole1
-      done-coming = record { all = all; left = []; room = room; mark = unknown; is = unknown-slot; stands = done-standing }
-
-      module _ {now2 : List ℕ} {p2 : Page} {row2 whole2 : List ℕ} (k : Counted now1 p1 start end after end 8 row1 whole1 now2 p2 row2 whole2) where
-        done-counted : Standing all [] start end room now2 p2 row2 whole2
-        done-counted = k .on all [] room unknown unknown-slot done-standing
-
-        pub done-ending : Ending now2 p2 start end row2 whole2
-        done-ending = record { all = all; room = room; stands = done-counted }
-
-        pub done-put : {now3 : List ℕ} {m : ℕ} → Ended now2 p2 start end row2 whole2 now3 m → Put room 0 (encodeAll (rawForms all start end)) m now3 m
-        done-put e = e .on all room done-counted
+    -- the walk is done: all its pieces are counted
+    pub walk-counted : {lo : ℕ} {a : List ℕ} → Begun s z (venueBy z g) 3659 lo w a → pieces w1 ≡ [] → AllCounted (walked s first ats offsets rules lo hi) now p start end row whole now1 p1 row1 whole1
+    walk-counted {lo} {a} b done =
+        record {
+          on = λ all last room x. subst (λ (l : List (Span Mark)). Standing all (l ++ last) start end room now1 p1 row1 whole1) done (r .on all last room (walk-standing b last x));
+          kept = r .kept;
+        }
 
 -- ---- a venue: the first stretch, and what is then left
 
@@ -220,12 +217,8 @@ module _ (s : List ℕ) (h : Header) (ats offsets rules events : List ℕ) where
     pub venue-coming : Coming room p start end start before 8 row whole
     venue-coming = record { all = rawOf values start end; left = behindFirst; room = room; mark = unknown; is = unknown-slot; stands = venue-first }
 
+    -- then the walk comes, and the last stretch
     pub venue-standing : {now1 : List ℕ} {p1 : Page} {row1 whole1 : List ℕ} → Counted room p start end start before 8 row whole now1 p1 row1 whole1
         → {lo hi after : ℕ} → lo ≡ max start (h .start .0) → hi ≡ min end (h .end .0) → after ≡ max start (h .end .0)
-        → {w : Walk} {a : List ℕ} → Begun s (zoneOf (h .first) ats offsets) (venueOf values) 3659 lo w a
-        → Standing (rawOf values start end) (pieces s (h .first) ats offsets rules hi w ++ (stretchOf after end unknown ∷ [])) start end room now1 p1 row1 whole1
-    venue-standing {now1} {p1} {row1} {whole1} k {lo} {hi} {after} l i e {w} {a} begun =
-        let x = k .on (rawOf values start end) behindFirst room unknown unknown-slot venue-first in
-        let y : pieces s (h .first) ats offsets rules hi w ≡ map heldMark (walk (venueOf values) (min end (h .end .0)) turns (max start (h .start .0))) =
-        pieces-begun s (h .first) ats offsets rules hi begun ∙ ap₂ (λ (m n : ℕ). map heldMark (walk (venueOf values) m turns n)) i l in
-        rw (y, e) x
+        → Standing (rawOf values start end) (walked s (h .first) ats offsets rules lo hi ++ (stretchOf after end unknown ∷ [])) start end room now1 p1 row1 whole1
+    venue-standing k l i e = rw (l, i, e) (k .on (rawOf values start end) behindFirst room unknown unknown-slot venue-first)

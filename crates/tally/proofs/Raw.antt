@@ -21,8 +21,9 @@ use Rattle.answer.specs.Meaning.{totalsOf}
 use Rattle.tell.specs.Shown.{Shown, shown}
 use Rattle.timeline.specs.Segments.{segments, showing, timelineOf}
 use Rattle.timeline.proofs.Parts.{merges}
-use Rattle.tally.specs.Tallying.{rowsOf, rowTotals, dayForm, formsBy}
-use Rattle.tally.specs.Private.{marks, stretchOf, heldMark, rawBlank, rawOf}
+use Rattle.pages.specs.Rows.{rowsOf, rowTotals, dayForm, formsBy}
+use Rattle.pages.specs.Pages.{marks, stretchOf}
+use Rattle.tally.specs.Private.{heldMark, rawBlank, rawOf}
 
 -- ---- lists of spans
 

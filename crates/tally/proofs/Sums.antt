@@ -27,8 +27,8 @@ use Rattle.timeline.specs.Asking.{segmentsBy}
 use Rattle.timeline.specs.Segments.{segments, markOf, timelineOf}
 use Rattle.timeline.proofs.Shape.{window-shape}
 use Rattle.timeline.proofs.Bounds.{Bodies, Shows, rowMost, bodies-keep, segments-good}
-use Rattle.tally.specs.Tallying.{rowEnd, rowsFrom, rowsOf, rowTotals}
-use Rattle.tally.specs.Private.{Low}
+use Rattle.pages.specs.Rows.{rowEnd, rowsFrom, rowsOf, rowTotals}
+use Rattle.pages.specs.Pages.{Low}
 use Rattle.tally.proofs.Raw.{backwards}
 
 abbrev pub sum : List ℕ → ℕ

@@ -18,7 +18,8 @@ use Rattle.day.specs.Governing.{governingFrom}
 use Rattle.query.specs.Judging.{windowRefusal}
 use Rattle.answer.specs.Forms.{day, tally}
 use Rattle.timeline.specs.Asking.{windowNumber}
-use Rattle.tally.specs.Tallying.{rowsFrom, tallyForms, tallyNumber}
+use Rattle.pages.specs.Rows.{rowsFrom}
+use Rattle.tally.specs.Tallying.{tallyForms, tallyNumber}
 
 abbrev book : List ℕ
 book = encodeAll bookA

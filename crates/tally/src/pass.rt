@@ -3,17 +3,19 @@ ghost use Prim.Native.Nat.{_+_, _*_, _<_};
 ghost use lib.ListN.{length};
 ghost use Rattle.wire.specs.Fields.{Inside, Put};
 ghost use Rattle.answer.specs.Forms.{encodeAll};
+ghost use Rattle.zone.specs.Answers.{Valid};
+ghost use Rattle.venue.specs.Reading.{AllListed};
 ghost use Rattle.venue.specs.Filled.{Ready};
 ghost use Rattle.day.specs.Meaning.{valuesAt};
-ghost use Rattle.tally.specs.Tallying.{rowsOf};
-ghost use Rattle.tally.specs.Private.{rawForms, rawBlank, rawOf, First};
-use crate::Page;
-use crate::count::SLOTS;
-use crate::count::UNKNOWN;
-use crate::count::finish;
-use crate::count::renew;
-use crate::count::stretch;
-use crate::cuts::row_end;
+ghost use Rattle.pages.specs.Rows.{rowsOf};
+ghost use Rattle.pages.specs.Pages.{rawForms};
+ghost use Rattle.tally.specs.Private.{rawBlank, rawOf, walked, AllComing, AllCounted};
+use pages::Page;
+use pages::SLOTS;
+use pages::UNKNOWN;
+use pages::finish;
+use pages::first_page;
+use pages::stretch;
 use spans::earlier;
 use spans::later;
 use venue::Header;
@@ -28,26 +30,6 @@ use walk::behind;
 use walk::here;
 use walk::turn_on;
 use zone::Instant;
-
-// The first row.
-fn first_page(
-    start: Instant,
-    end: Instant,
-    row: &mut [u64; SLOTS],
-    whole: &mut [u64; SLOTS],
-) -> Page
-    requires { ⌜ start .0 < end .0 ⌝ }
-    ensures { λ r. ⌜ First (start .0) (end .0) r (now (row .exit)) (now (whole .exit)) ⌝ }
-{
-    let next = row_end(end.0, start.0);
-    renew(row, next - start.0);
-    renew(whole, end.0 - start.0);
-    Page {
-        start,
-        end: Instant(next),
-        at: 0,
-    }
-}
 
 // A venue without data.
 pub(crate) fn put_blank(start: Instant, end: Instant, out: &mut [u8]) -> usize
@@ -69,6 +51,73 @@ pub(crate) fn put_blank(start: Instant, end: Instant, out: &mut [u8]) -> usize
         &mut whole,
     );
     finish(out, last, start, end, &mut row, &mut whole)
+}
+
+// Counts the pieces of the walk from `lo` to before `hi`.
+fn count_walk(
+    book: &[u8],
+    first: u32,
+    ats: &[u64],
+    offsets: &[u32],
+    rules: &[u32],
+    lo: Instant,
+    hi: Instant,
+    start: Instant,
+    end: Instant,
+    out: &mut [u8],
+    page: Page,
+    row: &mut [u64; SLOTS],
+    whole: &mut [u64; SLOTS],
+) -> Page
+    requires { ⌜ Valid first (now ats) (now offsets) × AllListed 3 (now book) (now rules)
+        × AllComing (walked (now book) first (now ats) (now offsets) (now rules) (lo .0) (hi .0)) (now out) page (start .0) (end .0) (now row) (now whole) ⌝ }
+    ensures { λ r. ⌜ AllCounted (walked (now (book .entry)) first (now (ats .entry)) (now (offsets .entry)) (now (rules .entry)) (lo .0) (hi .0)) (now (out .entry)) page (start .0) (end .0)
+        (now (row .entry)) (now (whole .entry)) (now (out .exit)) r (now (row .exit)) (now (whole .exit)) ⌝ }
+{
+    let mut kept = [0u32; MOST_KEPT];
+    let mut edges = [0u64; MOST_BOUNDARIES];
+    let opening = begin(
+        book,
+        first,
+        ats,
+        offsets,
+        rules,
+        &mut kept,
+        &mut edges,
+        MOST_TURNS - 1,
+        lo,
+    );
+    // A copy, whose fields the loop can hold in registers: the place that `begin` fills stays in memory.
+    let mut w = opening;
+    let mut place = page;
+    'pieces: loop {
+        match here(book, &edges, hi, w) {
+            Pulled::Next(q) => {
+                let from = q.from;
+                let to = q.to;
+                let phase = point_phase(book, q.rule as usize, q.point);
+                place = stretch(out, place, start, end, from, to, phase as usize, row, whole);
+                w = behind(q);
+            }
+            Pulled::Done => match turn_on(
+                book,
+                first,
+                ats,
+                offsets,
+                rules,
+                &mut kept,
+                &mut edges,
+                hi,
+                w,
+            ) {
+                Turned::Done => break 'pieces,
+                Turned::On(next) => {
+                    w = next;
+                }
+            },
+        }
+    }
+    place
 }
 
 // Of an opened book.
@@ -99,7 +148,7 @@ pub(crate) fn put_tallies(
     let mut row = [0u64; SLOTS];
     let mut whole = [0u64; SLOTS];
     let page = first_page(start, end, &mut row, &mut whole);
-    let mut place = stretch(
+    let opened = stretch(
         out,
         page,
         start,
@@ -110,61 +159,24 @@ pub(crate) fn put_tallies(
         &mut row,
         &mut whole,
     );
-    let mut kept = [0u32; MOST_KEPT];
-    let mut edges = [0u64; MOST_BOUNDARIES];
-    let opening = begin(
+    let walked = count_walk(
         book,
         first,
         ats,
         offsets,
         rules,
-        &mut kept,
-        &mut edges,
-        MOST_TURNS - 1,
         lo,
+        hi,
+        start,
+        end,
+        out,
+        opened,
+        &mut row,
+        &mut whole,
     );
-    // A copy, whose fields the loop can hold in registers: the place that `begin` fills stays in memory.
-    let mut w = opening;
-    'pieces: loop {
-        match here(book, &edges, hi, w) {
-            Pulled::Next(q) => {
-                let from = q.from;
-                let to = q.to;
-                let phase = point_phase(book, q.rule as usize, q.point);
-                place = stretch(
-                    out,
-                    place,
-                    start,
-                    end,
-                    from,
-                    to,
-                    phase as usize,
-                    &mut row,
-                    &mut whole,
-                );
-                w = behind(q);
-            }
-            Pulled::Done => match turn_on(
-                book,
-                first,
-                ats,
-                offsets,
-                rules,
-                &mut kept,
-                &mut edges,
-                hi,
-                w,
-            ) {
-                Turned::Done => break 'pieces,
-                Turned::On(next) => {
-                    w = next;
-                }
-            },
-        }
-    }
     let last = stretch(
         out,
-        place,
+        walked,
         start,
         end,
         after,

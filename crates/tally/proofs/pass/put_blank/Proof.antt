@@ -1,5 +1,5 @@
 use mathlib.Core.Path.{_∙_}
-use Rattle.tally.proofs.Passing.{blank-coming, blank-ending, blank-put}
+use Rattle.tally.proofs.Passing.{blank-first, last-coming, last-ending, last-put}
 use Rattle.tally.proofs.pass.put_blank.Statement.{statement}
 use Rattle.tally.proofs.pass.put_blank.Tie as tie
 
@@ -12,20 +12,20 @@ stretch-requires : tie.Need-stretch-requires
 stretch-requires c κs =
     let at-first-page = c .before .before .before in
     let at-start = at-first-page .before .before .before .before in
-    blank-coming ((at-start .pre) .0) ((at-start .pre) .1) ((at-first-page .first-page .ensures))
+    last-coming (blank-first (at-start .pre .0) (at-start .pre .1) (at-first-page .first-page .ensures))
 
 finish-requires : tie.Need-finish-requires
 finish-requires c κs =
     let at-stretch = c .before .before .before .before .before in
     let at-first-page = at-stretch .before .before .before .before in
     let at-start = at-first-page .before .before .before .before in
-    blank-ending ((at-start .pre) .0) ((at-start .pre) .1) ((at-first-page .first-page .ensures)) ((at-stretch .stretch .ensures))
+    last-ending (blank-first (at-start .pre .0) (at-start .pre .1) (at-first-page .first-page .ensures)) (at-stretch .stretch .ensures)
 
 same-length : tie.Need-same-length
 same-length c =
     let at-finish = c .before .before in
     let at-stretch = at-finish .before .before .before .before .before .before in
-    ((at-finish .finish .ensures)) .kept ∙ ((at-stretch .stretch .ensures)) .kept
+    (at-finish .finish .ensures) .kept ∙ (at-stretch .stretch .ensures) .kept
 
 returns : tie.Need-returns
 returns c =
@@ -33,7 +33,7 @@ returns c =
     let at-stretch = at-finish .before .before .before .before .before .before in
     let at-first-page = at-stretch .before .before .before .before in
     let at-start = at-first-page .before .before .before .before in
-    blank-put ((at-start .pre) .0) ((at-start .pre) .1) ((at-first-page .first-page .ensures)) ((at-stretch .stretch .ensures)) ((at-finish .finish .ensures))
+    last-put (blank-first (at-start .pre .0) (at-start .pre .1) (at-first-page .first-page .ensures)) (at-stretch .stretch .ensures) (at-finish .finish .ensures)
 
 pub put-blank-spec : {M : Type 1} → statement M
 put-blank-spec =

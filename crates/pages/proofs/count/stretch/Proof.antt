@@ -1,9 +1,9 @@
 use borrow.Author.Needs.{needs}
 use native.Mathlib.Omega.{arith}
 use Prim.Native.Nat.{_-_}
-use Rattle.tally.proofs.Paging.{Rolling, rolling-none, rolling-next, coming-whole, coming-row, coming-room, coming-turn, counted}
-use Rattle.tally.proofs.count.stretch.Statement.{statement}
-use Rattle.tally.proofs.count.stretch.Tie as tie
+use Rattle.pages.proofs.Paging.{Rolling, rolling-none, rolling-next, coming-whole, coming-row, coming-room, coming-turn, counted}
+use Rattle.pages.proofs.count.stretch.Statement.{statement}
+use Rattle.pages.proofs.count.stretch.Tie as tie
 
 abbrev Inv-rows : tie.InvT-rows
 Inv-rows out₀ end from to slot row₀ whole a₀ b₀ at₀ out row a b at = Rolling out₀ (a₀ .0) (b₀ .0) at₀ row₀ (end .0) (from .0) (to .0) slot out (a .0) (b .0) at row

@@ -1,7 +1,7 @@
 use mathlib.Core.Path.{_∙_}
-use Rattle.tally.proofs.Paging.{ending-stretch, ending-day, ending-tally, ended}
-use Rattle.tally.proofs.count.finish.Statement.{statement}
-use Rattle.tally.proofs.count.finish.Tie as tie
+use Rattle.pages.proofs.Paging.{ending-stretch, ending-day, ending-tally, ended}
+use Rattle.pages.proofs.count.finish.Statement.{statement}
+use Rattle.pages.proofs.count.finish.Tie as tie
 
 stretch-requires : tie.Need-stretch-requires
 stretch-requires c κs =

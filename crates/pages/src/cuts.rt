@@ -2,10 +2,9 @@
 ghost use Prim.Native.Nat.{_+_, _*_, _≤_};
 ghost use mathlib.Core.Path.{_≡_};
 ghost use lib.ListN.{length};
-ghost use Rattle.tally.specs.Tallying.{rowEnd, rowsOf, mostNs};
+ghost use Rattle.pages.specs.Rows.{rowEnd, rowsOf, mostNs};
+use crate::DAY_NS;
 use answer::ROW_BYTES;
-
-pub const DAY_NS: u64 = 86_400_000_000_000;
 
 // The next row edge after `at`. Sizing and rows both ask here.
 pub(crate) fn row_end(end: u64, at: u64) -> u64
@@ -32,7 +31,7 @@ fn count_rows(start: u64, end: u64) -> usize
 }
 
 // How many bytes its rows and the closing total take.
-pub(crate) fn tally_size(start: u64, end: u64) -> usize
+pub fn tally_size(start: u64, end: u64) -> usize
     requires { ⌜ end ≤ start + mostNs ⌝ }
     ensures { λ r. ⌜ r ≡ 100 * (length (rowsOf start end) + 1) ⌝ }
 {

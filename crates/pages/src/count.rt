@@ -3,8 +3,10 @@
 ghost use Prim.Native.Nat.{_+_, _-_, _≤_, _<_, min, max};
 ghost use mathlib.Core.Path.{_≡_};
 ghost use lib.ListN.{getD};
-ghost use Rattle.tally.specs.Private.{shifted, fresh, Coming, Counted, Ending, Ended};
+ghost use Rattle.pages.specs.Pages.{shifted, fresh, Coming, Counted, Ending, Ended, First};
 use crate::Page;
+use crate::SLOTS;
+use crate::UNKNOWN;
 use crate::cuts::row_end;
 use answer::put_day;
 use answer::put_tally;
@@ -12,11 +14,7 @@ use spans::earlier;
 use spans::later;
 use zone::Instant;
 
-pub const SLOTS: usize = 10;
-
-// Where what is unknown is counted, and what lies in no segment.
-pub const UNKNOWN: usize = 8;
-
+// Where what lies in no segment is counted.
 const NOWHERE: usize = 9;
 
 // How much of the row from a to before b lies from `from` to before `to`.
@@ -29,7 +27,7 @@ fn part(a: u64, b: u64, from: u64, to: u64) -> u64
 }
 
 // A row as it begins.
-pub(crate) fn renew(row: &mut [u64; SLOTS], length: u64)
+fn renew(row: &mut [u64; SLOTS], length: u64)
     ensures { λ r. ⌜ now (row .exit) ≡ fresh length ⌝ }
 {
     *row = [0; SLOTS];
@@ -47,8 +45,28 @@ fn shift(row: &mut [u64; SLOTS], slot: usize, n: u64)
     row[NOWHERE] = less;
 }
 
+// The first row.
+pub fn first_page(
+    start: Instant,
+    end: Instant,
+    row: &mut [u64; SLOTS],
+    whole: &mut [u64; SLOTS],
+) -> Page
+    requires { ⌜ start .0 < end .0 ⌝ }
+    ensures { λ r. ⌜ First (start .0) (end .0) r (now (row .exit)) (now (whole .exit)) ⌝ }
+{
+    let next = row_end(end.0, start.0);
+    renew(row, next - start.0);
+    renew(whole, end.0 - start.0);
+    Page {
+        start,
+        end: Instant(next),
+        at: 0,
+    }
+}
+
 // Counts a stretch in the closing totals and in the rows that it meets. A row that ends inside the stretch or before it is written and the next begins.
-pub(crate) fn stretch(
+pub fn stretch(
     out: &mut [u8],
     page: Page,
     start: Instant,
@@ -85,7 +103,7 @@ pub(crate) fn stretch(
 }
 
 // Closes the rows that are left, and writes the closing total. Answers the place behind it.
-pub(crate) fn finish(
+pub fn finish(
     out: &mut [u8],
     page: Page,
     start: Instant,

@@ -1,9 +1,9 @@
-use Rattle.tally.specs.Private.{fresh}
+use Rattle.pages.specs.Pages.{fresh}
 use Prim.Native.Nat.{ℕ, _-_}
 use mathlib.Core.Path.{refl, ap, _∙_}
 use borrow.Author.Needs.{needs}
-use Rattle.tally.proofs.pass.first_page.Statement.{statement}
-use Rattle.tally.proofs.pass.first_page.Tie as tie
+use Rattle.pages.proofs.count.first_page.Statement.{statement}
+use Rattle.pages.proofs.count.first_page.Tie as tie
 
 row-end-requires : tie.Need-row-end-requires
 row-end-requires c κs = search needs

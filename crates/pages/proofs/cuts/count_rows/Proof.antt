@@ -1,9 +1,9 @@
 use borrow.Author.Needs.{needs}
 use native.Mathlib.Omega.{arith}
 use Prim.Native.Nat.{_-_}
-use Rattle.tally.proofs.Paging.{Cutting, cutting-none, cutting-next, cutting-end}
-use Rattle.tally.proofs.cuts.count_rows.Statement.{statement}
-use Rattle.tally.proofs.cuts.count_rows.Tie as tie
+use Rattle.pages.proofs.Paging.{Cutting, cutting-none, cutting-next, cutting-end}
+use Rattle.pages.proofs.cuts.count_rows.Statement.{statement}
+use Rattle.pages.proofs.cuts.count_rows.Tie as tie
 
 abbrev Inv-loop : tie.InvT-loop
 Inv-loop start end count₀ at₀ count at = Cutting start end count at

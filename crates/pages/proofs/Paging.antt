@@ -17,10 +17,10 @@ use Rattle.answer.specs.Forms.{Form, day, tally, encode, encodeAll}
 use Rattle.answer.specs.Meaning.{totalsOf}
 use Rattle.answer.proofs.Readback.{encode-length}
 use Rattle.answer.proofs.Several.{one-form, encode-append, append-length}
-use Rattle.tally.specs.Tallying.{rowEnd, rowsFrom, rowsOf, rowTotals, dayForm, mostNs}
-use Rattle.tally.specs.Private.{marks, stretchOf, kindAt, Slot, fresh, shifted, Filled, Ordered, dayForms, rawForms, Paged, Standing, Coming, Counted, Ending, Ended, First}
-use Rattle.tally.specs.declared.Page.{Page}
-use Rattle.tally.proofs.Counting.{small, one-none, ahead-none, slot-small, filled-fresh, filled-all, filled-one, takes, gets}
+use Rattle.pages.specs.Rows.{rowEnd, rowsFrom, rowsOf, rowTotals, dayForm, mostNs}
+use Rattle.pages.specs.Pages.{marks, stretchOf, kindAt, Slot, fresh, shifted, Filled, Ordered, dayForms, rawForms, Paged, Standing, Coming, Counted, Ending, Ended, First}
+use Rattle.pages.specs.declared.Page.{Page}
+use Rattle.pages.proofs.Counting.{small, one-none, ahead-none, slot-small, filled-fresh, filled-all, filled-one, takes, gets}
 
 -- ---- rows
 

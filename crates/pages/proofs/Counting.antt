@@ -11,8 +11,8 @@ use lib.ListN.{getD, set, length-set}
 use lib.Seq.{getD-set-same, getD-set-other, ext-getD}
 use Rattle.spans.specs.Spans.{Mark, phase, unknown, Span}
 use Rattle.spans.specs.Totals.{anyMark, total}
-use Rattle.tally.specs.Tallying.{rowTotals}
-use Rattle.tally.specs.Private.{marks, kindAt, Slot, fresh, shifted, Filled, Ahead, Ordered}
+use Rattle.pages.specs.Rows.{rowTotals}
+use Rattle.pages.specs.Pages.{marks, kindAt, Slot, fresh, shifted, Filled, Ahead, Ordered}
 
 -- ---- the total of a list
 

@@ -1,0 +1,24 @@
+// The pages of a tally: its rows, filled and written one after the other while the stretches of a window come.
+mod count;
+mod cuts;
+
+pub use count::finish;
+pub use count::first_page;
+pub use count::stretch;
+pub use cuts::tally_size;
+use zone::Instant;
+
+// The totals of a row.
+pub const SLOTS: usize = 10;
+
+// Where what is unknown is counted.
+pub const UNKNOWN: usize = 8;
+
+pub const DAY_NS: u64 = 86_400_000_000_000;
+
+// The row that is open, and where its record will stand.
+pub struct Page {
+    pub start: Instant,
+    pub end: Instant,
+    pub at: usize,
+}
