@@ -1,11 +1,9 @@
 -- What the private functions answer and require. Assumes nothing.
-use Prim.Native.Nat.{ℕ, _+_}
-use mathlib.Core.Bool.{Bool, true, false, cond, _&&_}
+use Prim.Native.Nat.{ℕ}
+use mathlib.Core.Bool.{Bool, true, false, cond}
 use mathlib.Core.List.{List}
-use lib.Dec.{eqb}
 use Rattle.wire.specs.Fields.{Inside, wrote}
 use Rattle.zone.specs.Zone.{Zone}
-use Rattle.zone.specs.Answers.{widestOf}
 use Rattle.day.specs.Days.{whole as wholeOf}
 use Rattle.walk.specs.Walking.{heldIn}
 use Rattle.walk.specs.declared.Piece.{Piece}
@@ -13,13 +11,9 @@ use Rattle.answer.specs.Forms.{phase, encode}
 use Rattle.answer.specs.Meaning.{phaseOf}
 use Rattle.answer.specs.declared.Phase.{Phase}
 use Rattle.tell.specs.Shown.{headOf}
-use Rattle.passes.specs.declared.Last.{Last}
-use Rattle.passes.specs.declared.Last.the-variants.{Nothing, Shows}
-
--- what the last span showed, and whether a span from `from` on joins it
-abbrev pub joinsLast : Last → ℕ → ℕ → ℕ → Bool
-joinsLast Nothing from p e = false
-joinsLast (Shows to q f) from p e = eqb (to .0) from && (eqb q p && eqb f e)
+use Rattle.joining.specs.Amending.{joinedHead}
+use Rattle.joining.specs.declared.Last.{Last}
+use Rattle.joining.specs.declared.Last.the-variants.{Nothing, Shows}
 
 -- the record that the next span may join, if there is one: where it will stand, and what it says so far
 pub data Open : Type 0 where
@@ -33,22 +27,6 @@ openOf false stand head = Closed
 abbrev pub lastOf : Open → Last
 lastOf Closed = Nothing
 lastOf (At place h) = Shows (h .end) (h .phase) (h .evidence)
-
-abbrev pub joinedHead : Phase → Phase → Phase
-joinedHead a b =
-    record {
-      start = a .start;
-      end = b .end;
-      phase = a .phase;
-      code = a .code;
-      label = a .label;
-      evidence = a .evidence;
-      derived = a .derived;
-      from = a .from;
-      to = b .to;
-      whole = widestOf (a .whole) (b .whole);
-      events = a .events + b .events;
-    }
 
 -- the record that is open fits, and what it leaves when it is written
 abbrev pub Room : Open → List ℕ → Type 0

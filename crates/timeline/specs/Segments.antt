@@ -8,7 +8,7 @@ use Rattle.spans.specs.Spans.{Mark, unknown, Span, Body}
 use Rattle.spans.specs.Timeline.{Venue, Part, timeline}
 use Rattle.day.specs.Days.{Values, venueBy}
 use Rattle.tell.specs.Shown.{Shown, shown}
-use Rattle.passes.specs.Joining.{phaseMark, joinedShown}
+use Rattle.joining.specs.Joining.{phaseMark, joinedShown}
 
 -- ---- a segment shows a phase, or that nothing is known
 

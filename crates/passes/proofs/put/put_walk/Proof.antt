@@ -1,7 +1,9 @@
 use borrow.Author.Needs.{needs}
-use Rattle.passes.proofs.Steps.{z, left, fewer, come, shown, gone, turned, turn-fewer, turn-written, last-held, joins-held, held-next, held-count, its-place, its-count, its-room, its-length, found-few, written, stands-on, fewer-on, written-on, begun-writing, walk-put}
-use Rattle.passes.proofs.Passes.{bytesOf, Writing, write-hole}
-use Rattle.passes.specs.Joining.{phases}
+use Rattle.joining.proofs.Steps.{z, left, fewer, come, shown, gone, turned, turn-fewer, found-few, stands-on, fewer-on}
+use Rattle.joining.proofs.Sizes.{bytesOf}
+use Rattle.joining.specs.Joining.{phases}
+use Rattle.passes.proofs.Steps.{turn-written, last-held, joins-held, held-next, held-count, its-place, its-count, its-room, its-length, written, written-on, begun-writing, walk-put}
+use Rattle.passes.proofs.Passes.{Writing, write-hole}
 use Rattle.passes.specs.Private.{openOf}
 use Rattle.walk.proofs.Looking.{stands-held}
 use Rattle.walk.proofs.Keeping.{keeps-blank}

@@ -1,16 +1,25 @@
-// Which spans join, and what they become.
+// Joining, as both passes over a walk do it: which spans join, what joined spans become, and how many bytes a joined walk takes.
 ghost use mathlib.Core.Path.{_≡_};
 ghost use Prim.Native.Nat.{_+_, _<_};
 ghost use mathlib.Core.Bool.{cond};
-ghost use Rattle.passes.specs.Private.{joinsLast, joinedHead};
-ghost use Rattle.passes.specs.declared.Last.the-variants.{Nothing, Shows};
-use crate::Last;
+ghost use Rattle.joining.specs.Amending.{joinsLast, joinedHead};
+ghost use Rattle.joining.specs.declared.Last.the-variants.{Nothing, Shows};
 use answer::Phase;
 use zone::Instant;
 use zone::widest;
 
+mod size;
+
+pub use size::walk_size;
+
+// What the last span showed: where it ended, its phase and its evidence.
+pub enum Last {
+    Nothing,
+    Shows(Instant, u8, u16),
+}
+
 // Whether a span from `from` on touches the last one and shows the same.
-pub(crate) fn joins(last: Last, from: Instant, phase: u8, evidence: u16) -> bool
+pub fn joins(last: Last, from: Instant, phase: u8, evidence: u16) -> bool
     ensures { λ r. ⌜ r ≡ joinsLast last (from .0) phase evidence ⌝ }
 {
     match last {
@@ -19,8 +28,8 @@ pub(crate) fn joins(last: Last, from: Instant, phase: u8, evidence: u16) -> bool
     }
 }
 
-// What the record that is held back shows, if there is one.
-pub(crate) fn last_of(begun: bool, until: Instant, phase: u8, evidence: u16) -> Last
+// What the last record shows, if there is one.
+pub fn last_of(begun: bool, until: Instant, phase: u8, evidence: u16) -> Last
     ensures { λ r. ⌜ r ≡ cond begun (Shows until phase evidence) Nothing ⌝ }
 {
     if begun {
@@ -30,7 +39,7 @@ pub(crate) fn last_of(begun: bool, until: Instant, phase: u8, evidence: u16) -> 
 }
 
 // The record of two spans that join.
-pub(crate) fn joined(a: Phase, b: Phase) -> Phase
+pub fn joined(a: Phase, b: Phase) -> Phase
     requires { ⌜ a .events + b .events < 4294967296 ⌝ }
     ensures { λ r. ⌜ r ≡ joinedHead a b ⌝ }
 {

@@ -1,5 +1,5 @@
-use Rattle.passes.proofs.join.last_of.Statement.{statement}
-use Rattle.passes.proofs.join.last_of.Tie as tie
+use Rattle.joining.proofs.last_of.Statement.{statement}
+use Rattle.joining.proofs.last_of.Tie as tie
 
 returns : tie.Need-returns
 returns c =

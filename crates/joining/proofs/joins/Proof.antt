@@ -1,6 +1,6 @@
 use borrow.Author.Needs.{needs}
-use Rattle.passes.proofs.join.joins.Statement.{statement}
-use Rattle.passes.proofs.join.joins.Tie as tie
+use Rattle.joining.proofs.joins.Statement.{statement}
+use Rattle.joining.proofs.joins.Tie as tie
 
 enum-told : tie.Need-enum-told
 enum-told c = search needs

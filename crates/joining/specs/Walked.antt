@@ -10,7 +10,7 @@ use Rattle.day.specs.Governing.{governing}
 use Rattle.day.specs.Days.{Held, venueBy}
 use Rattle.answer.specs.Forms.{Form}
 use Rattle.tell.specs.Shown.{Shown, shown, shownForms}
-use Rattle.passes.specs.Joining.{phases}
+use Rattle.joining.specs.Joining.{phases}
 
 -- a span of a date, with what it shows
 abbrev pub showsSpan : Zone → List Event → Span Held → Span Shown

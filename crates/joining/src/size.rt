@@ -1,13 +1,13 @@
-// The first pass over a walk: how many bytes the second writes.
+// The first pass over a walk: how many bytes its records take, joined.
 ghost use Prim.Native.Nat.{_≤_};
 ghost use mathlib.Core.Path.{_≡_};
 ghost use mathlib.Core.Bool.{cond};
 ghost use lib.ListN.{length};
 ghost use Rattle.venue.specs.Filled.{Ready};
 ghost use Rattle.answer.specs.Forms.{encodeAll};
-ghost use Rattle.passes.specs.Walked.{walkForms};
+ghost use Rattle.joining.specs.Walked.{walkForms};
 use crate::Last;
-use crate::join::joins;
+use crate::joins;
 use answer::EVENT_BYTES;
 use answer::PHASE_BYTES;
 use events::count_events;

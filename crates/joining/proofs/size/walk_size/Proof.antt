@@ -1,8 +1,8 @@
 use borrow.Author.Needs.{needs}
 use native.Mathlib.Omega.{arith}
-use Rattle.passes.proofs.Passes.{bytesOf, Sizing, size-start, size-end}
-use Rattle.passes.specs.Walked.{phaseForms}
-use Rattle.passes.specs.Joining.{phases}
+use Rattle.joining.proofs.Sizes.{bytesOf, Sizing, size-start, size-end}
+use Rattle.joining.specs.Walked.{phaseForms}
+use Rattle.joining.specs.Joining.{phases}
 use Rattle.tell.specs.Shown.{Shown}
 use Rattle.walk.proofs.Looking.{stands-held}
 use Rattle.walk.proofs.Keeping.{keeps-blank}
@@ -14,10 +14,10 @@ use Rattle.answer.specs.Forms.{encodeAll}
 use lib.ListN.{length}
 use mathlib.Core.List.{List}
 use mathlib.Core.Path.{refl, sym, ap, _∙_}
-use Rattle.passes.proofs.Steps.{z, left, begun-spans, begun-few, sized, fewer, stands-on, fewer-on, sized-on, come, shown, gone, turned, turn-fewer, turn-sized}
+use Rattle.joining.proofs.Steps.{z, left, begun-spans, begun-few, sized, fewer, stands-on, fewer-on, sized-on, come, shown, gone, turned, turn-fewer, turn-sized}
 use Prim.Native.Nat.{_+_}
-use Rattle.passes.proofs.size.walk_size.Statement.{statement}
-use Rattle.passes.proofs.size.walk_size.Tie as tie
+use Rattle.joining.proofs.size.walk_size.Statement.{statement}
+use Rattle.joining.proofs.size.walk_size.Tie as tie
 
 abbrev Inv-pieces : tie.InvT-pieces
 Inv-pieces book first ats offsets rules events hi kept₀ edges₀ w₀ last₀ size₀ kept edges w last size =

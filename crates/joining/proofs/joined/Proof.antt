@@ -1,6 +1,6 @@
 use borrow.Author.Needs.{needs}
-use Rattle.passes.proofs.join.joined.Statement.{statement}
-use Rattle.passes.proofs.join.joined.Tie as tie
+use Rattle.joining.proofs.joined.Statement.{statement}
+use Rattle.joining.proofs.joined.Tie as tie
 
 widest-requires : tie.Need-widest-requires
 widest-requires c κs = search needs
