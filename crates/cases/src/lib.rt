@@ -55,3 +55,14 @@ pub fn report(name: &[u8], counts: &[u64], kind: u8) {
         io::write_all(STDOUT_FILENO, b"\n");
     }
 }
+
+// Prints how many cases got each number, of those whose places are below `end`: a number's count stands one place behind it.
+pub fn report_refusals(counts: &[u64], end: u8) {
+    let mut kind: u8 = 2;
+    while kind < end {
+        io::write_all(STDOUT_FILENO, b"refused by ");
+        io::print_decimal(STDOUT_FILENO, (kind - 1) as u64);
+        report(b" ", counts, kind);
+        kind += 1;
+    }
+}

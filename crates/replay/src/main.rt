@@ -8,6 +8,7 @@ use board::count_answer;
 use cases::met;
 use cases::number;
 use cases::report;
+use cases::report_refusals;
 use lend::Reply;
 use lend::refused;
 use point::point_answer;
@@ -329,26 +330,8 @@ fn told_kinds(counts: &[u64]) {
     report(b"counts ", counts, ENTRIES + ROWS);
 }
 
-fn told_low(counts: &[u64]) {
-    report(b"refused by 1 ", counts, 2);
-    report(b"refused by 2 ", counts, 3);
-    report(b"refused by 3 ", counts, 4);
-    report(b"refused by 4 ", counts, 5);
-    report(b"refused by 5 ", counts, 6);
-    report(b"refused by 6 ", counts, 7);
-    report(b"refused by 7 ", counts, 8);
-    report(b"refused by 8 ", counts, 9);
-    report(b"refused by 9 ", counts, 10);
-}
-
-fn told_high(counts: &[u64]) {
-    report(b"refused by 10 ", counts, 11);
-    report(b"refused by 11 ", counts, 12);
-    report(b"refused by 12 ", counts, 13);
-    report(b"refused by 13 ", counts, 14);
-    report(b"refused by 14 ", counts, 15);
-    report(b"refused by 15 ", counts, 16);
-    report(b"refused by 16 ", counts, 17);
+fn told_numbers(counts: &[u64]) {
+    report_refusals(counts, 18);
     report(b"differences ", counts, 0);
     report(b"bytes of the list not understood ", counts, STRANGE);
 }
@@ -363,6 +346,5 @@ fn main() {
     all_blocks(fd, &mut counts);
     libc::close(fd);
     told_kinds(&counts);
-    told_low(&counts);
-    told_high(&counts);
+    told_numbers(&counts);
 }

@@ -4,6 +4,7 @@ ghost use Prim.Native.Nat.{_≤_};
 use cases::met;
 use cases::number;
 use cases::report;
+use cases::report_refusals;
 use wire::Placed;
 
 // Kinds of records: a book's number, its length and its bytes; and the number and the length of a book of zeros.
@@ -114,20 +115,9 @@ fn all_blocks(fd: i32, counts: &mut [u64]) {
     }
 }
 
-fn told_low(counts: &[u64]) {
+fn told(counts: &[u64]) {
     report(b"accepted ", counts, 1);
-    report(b"refused by 1 ", counts, 2);
-    report(b"refused by 2 ", counts, 3);
-    report(b"refused by 3 ", counts, 4);
-    report(b"refused by 4 ", counts, 5);
-    report(b"refused by 5 ", counts, 6);
-}
-
-fn told_high(counts: &[u64]) {
-    report(b"refused by 6 ", counts, 7);
-    report(b"refused by 7 ", counts, 8);
-    report(b"refused by 8 ", counts, 9);
-    report(b"refused by 9 ", counts, 10);
+    report_refusals(counts, 11);
     report(b"differences ", counts, 0);
     report(b"bytes of the list not understood ", counts, STRANGE);
 }
@@ -141,6 +131,5 @@ fn main() {
     let mut counts = [0u64; PLACES];
     all_blocks(fd, &mut counts);
     libc::close(fd);
-    told_low(&counts);
-    told_high(&counts);
+    told(&counts);
 }
