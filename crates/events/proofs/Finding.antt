@@ -40,6 +40,13 @@ pub met-by : (s : Search) (o : Occurrence) (b : Best) → b ≡ cond (fromHere (
     → _≡_ {A = Search} (record { at = s .at; index = s .index; count = s .count + 1; best = b }) (met s o)
 met-by s o b e = ap (λ (a : Best). record { at = s .at; index = s .index; count = s .count + 1; best = a }) e
 
+-- the same by the code's test p, where q says whether it is better than the best so far
+pub met-tested : (s : Search) (o : Occurrence) (b : Best) (q p : Bool) → q ≡ better (s .best) o → (fromHere (s .at .0) (s .index) o (s .count) && q) ≡ p
+    → b ≡ cond p (Some o (s .count)) (s .best) → _≡_ {A = Search} (record { at = s .at; index = s .index; count = s .count + 1; best = b }) (met s o)
+met-tested s o b q p e h t =
+    met-by s o b
+    (t ∙ ap (λ (z : Bool). cond z (Some o (s .count)) (s .best)) (sym h ∙ ap (λ (z : Bool). fromHere (s .at .0) (s .index) o (s .count) && z) e))
+
 -- ---- a list whose elements have events, passed one after the other: i of them are passed, each with at most so many events
 
 pub record Passing (f : List ℕ → List Occurrence) (whole : List ℕ) (most : ℕ) (s t : Search) (i : ℕ) : Type 0 where

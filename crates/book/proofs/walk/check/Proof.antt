@@ -33,6 +33,14 @@ known-at c =
     known (at-bad-frame .before .before .records .inv) (at-bad-frame .before .if2 .left)
     (sym (at-bad-frame .bad-frame .ensures) ∙ c .before .before .if3 .left) _ (c .get22 .ensures)
 
+-- a record whose points or times are being looked at: every type that follows from it is written by these short paths
+looking-at : (c : At tie.At-points)
+    → let at-get22 = c .before .before .before .before .before .before .before .before .before in
+    let at-records = at-get22 .before .before .before .before .before in
+    Looking (at-records .before .before .before .args .book .now) (at-records .records .at) (at-records .records .t) (at-get22 .get22 .result)
+    (c .before .items .result) (c .points .i) (c .points .item) (c .points .least) (c .points .falls)
+looking-at c = c .points .inv
+
 returns : At tie.Need-returns
 returns c =
     let at-if1 = c in
@@ -170,14 +178,14 @@ bad-item-requires : At tie.Need-bad-item-requires
 bad-item-requires c κs =
     let at-points-test = c in
     let at-points = at-points-test .before in
-    item-inside (at-points .points .inv) (at-points-test .points-test .taken)
+    item-inside (looking-at at-points) (at-points-test .points-test .taken)
 
 item-time-requires : At tie.Need-item-time-requires
 item-time-requires c κs =
     let at-points-test = c .before .before in
     let at-points = at-points-test .before in
     let at-get22 = at-points .before .before .before .before .before .before .before .before .before in
-    let r = item-inside (at-points .points .inv) (at-points-test .points-test .taken) in omega (arith, step-least (at-get22 .get22 .result))
+    let r = item-inside (looking-at at-points) (at-points-test .points-test .taken) in omega (arith, step-least (at-get22 .get22 .result))
 
 add-least : At tie.Need-add-least
 add-least c =
@@ -185,7 +193,7 @@ add-least c =
     let at-if9 = at-item-time .before in
     let at-bad-item = at-if9 .before in
     let at-points = at-bad-item .before .before in
-    let t = item-below (at-points .points .inv) (sym (at-bad-item .bad-item .ensures) ∙ (at-if9 .if9 .left)) in
+    let t = item-below (looking-at at-points) (sym (at-bad-item .bad-item .ensures) ∙ (at-if9 .if9 .left)) in
     let e = at-item-time .item-time .ensures in
     omega arith
 
@@ -195,7 +203,7 @@ add-item c =
     let at-points-test = at-step-of .before .before .before .before in
     let at-points = at-points-test .before in
     let at-records = at-points .before .before .before .before .before .before .before .before .before .before .before .before .before .before in
-    let r = item-inside (at-points .points .inv) (at-points-test .points-test .taken) in
+    let r = item-inside (looking-at at-points) (at-points-test .points-test .taken) in
     let e = at-step-of .step-of .ensures in
     omega (arith, (at-records .records .inv .small))
 
@@ -217,29 +225,29 @@ points-again c =
     let at-bad-item = at-if9 .before in
     let at-points-test = at-bad-item .before in
     let at-points = at-points-test .before in
-    look-on (at-points .points .inv) _ _ (at-points-test .points-test .taken) (sym (at-bad-item .bad-item .ensures) ∙ (at-if9 .if9 .left))
+    look-on (looking-at at-points) _ _ (at-points-test .points-test .taken) (sym (at-bad-item .bad-item .ensures) ∙ (at-if9 .if9 .left))
     (at-item-time .item-time .ensures) (at-step-of .step-of .ensures .0)
 
 late-start-requires : At tie.Need-late-start-requires
 late-start-requires c κs =
     let at-points = c .before in
-    ((at-points .points .inv) .known .frame, (at-points .points .inv) .known .kind)
+    ((looking-at at-points) .known .frame, (looking-at at-points) .known .kind)
 
 is-reversed-requires : At tie.Need-is-reversed-requires
 is-reversed-requires c κs =
     let at-points = c .before .before .before .before in
-    ((at-points .points .inv) .known .frame, (at-points .points .inv) .known .kind)
+    ((looking-at at-points) .known .frame, (looking-at at-points) .known .kind)
 
 covers-nothing-requires :
     At tie.Need-covers-nothing-requires
 covers-nothing-requires c κs =
     let at-points = c .before .before .before .before .before .before in
-    ((at-points .points .inv) .known .frame, (at-points .points .inv) .known .kind)
+    ((looking-at at-points) .known .frame, (looking-at at-points) .known .kind)
 
 one-more-requires-2 : At tie.Need-one-more-requires-2
 one-more-requires-2 c κs =
     let at-points = c .before .before .before .before .before .before .before .before in
-    ((at-points .points .inv) .known .frame, (at-points .points .inv) .known .kind, room-of ((at-points .points .inv) .known) ((at-points .points .inv) .fields))
+    ((looking-at at-points) .known .frame, (looking-at at-points) .known .kind, room-of ((looking-at at-points) .known) ((looking-at at-points) .fields))
 
 records-less-2 : At tie.Need-records-less-2
 records-less-2 c =
@@ -270,7 +278,7 @@ records-again-2 c =
     let at-get2 = at-if7 .before .before .before .before .before .before .before .before in
     let at-records = at-get2 .before .before .before .before in
     let at-start = at-records .before .before .before in
-    on-other (at-points .points .inv) (at-points-test .points-test .left) (sym (at-late-start .late-start .ensures) ∙ (at-if10 .if10 .left))
+    on-other (looking-at at-points) (at-points-test .points-test .left) (sym (at-late-start .late-start .ensures) ∙ (at-if10 .if10 .left))
     (at-if11 .if11 .left) (sym (at-is-reversed .is-reversed .ensures) ∙ (at-if12 .if12 .left))
     (sym (at-covers-nothing .covers-nothing .ensures) ∙ (at-if13 .if13 .left)) (at-if7 .if7 .left) _ (at-one-more2 .one-more2 .ensures) _
     (ap (λ (z : ℕ). (at-records .records .at) + 2 + z) (size-by (at-start .args .book .now) (at-records .records .at) _ (at-get2 .get2 .ensures)))
@@ -337,7 +345,7 @@ returns-8 c =
     let at-bad-item = at-if9 .before in
     let at-points-test = at-bad-item .before in
     let at-points = at-points-test .before in
-    items-4 (at-points .points .inv) (at-points-test .points-test .taken) (sym (at-bad-item .bad-item .ensures) ∙ (at-if9 .if9 .taken))
+    items-4 (looking-at at-points) (at-points-test .points-test .taken) (sym (at-bad-item .bad-item .ensures) ∙ (at-if9 .if9 .taken))
 
 returns-9 : At tie.Need-returns-9
 returns-9 c =
@@ -345,7 +353,7 @@ returns-9 c =
     let at-late-start = at-if10 .before in
     let at-points-test = at-late-start .before in
     let at-points = at-points-test .before in
-    late-5 (at-points .points .inv) (at-points-test .points-test .left) (sym (at-late-start .late-start .ensures) ∙ (at-if10 .if10 .taken))
+    late-5 (looking-at at-points) (at-points-test .points-test .left) (sym (at-late-start .late-start .ensures) ∙ (at-if10 .if10 .taken))
 
 returns-10 : At tie.Need-returns-10
 returns-10 c =
@@ -354,7 +362,7 @@ returns-10 c =
     let at-late-start = at-if10 .before in
     let at-points-test = at-late-start .before in
     let at-points = at-points-test .before in
-    falls-6 (at-points .points .inv) (at-points-test .points-test .left) (sym (at-late-start .late-start .ensures) ∙ (at-if10 .if10 .left)) (at-if11 .if11 .taken)
+    falls-6 (looking-at at-points) (at-points-test .points-test .left) (sym (at-late-start .late-start .ensures) ∙ (at-if10 .if10 .left)) (at-if11 .if11 .taken)
 
 returns-11 : At tie.Need-returns-11
 returns-11 c =
@@ -365,7 +373,7 @@ returns-11 c =
     let at-late-start = at-if10 .before in
     let at-points-test = at-late-start .before in
     let at-points = at-points-test .before in
-    reversed-7 (at-points .points .inv) (at-points-test .points-test .left) (sym (at-late-start .late-start .ensures) ∙ (at-if10 .if10 .left))
+    reversed-7 (looking-at at-points) (at-points-test .points-test .left) (sym (at-late-start .late-start .ensures) ∙ (at-if10 .if10 .left))
     (at-if11 .if11 .left) (sym (at-is-reversed .is-reversed .ensures) ∙ (at-if12 .if12 .taken))
 
 returns-12 : At tie.Need-returns-12
@@ -379,7 +387,7 @@ returns-12 c =
     let at-late-start = at-if10 .before in
     let at-points-test = at-late-start .before in
     let at-points = at-points-test .before in
-    covers-8 (at-points .points .inv) (at-points-test .points-test .left) (sym (at-late-start .late-start .ensures) ∙ (at-if10 .if10 .left))
+    covers-8 (looking-at at-points) (at-points-test .points-test .left) (sym (at-late-start .late-start .ensures) ∙ (at-if10 .if10 .left))
     (at-if11 .if11 .left) (sym (at-is-reversed .is-reversed .ensures) ∙ (at-if12 .if12 .left))
     (sym (at-covers-nothing .covers-nothing .ensures) ∙ (at-if13 .if13 .taken))
 
