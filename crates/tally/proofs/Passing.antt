@@ -110,6 +110,13 @@ module _ (s : List ℕ) (first : ℕ) (ats offsets rules : List ℕ) (hi : ℕ) 
   pub stands-on : {w w′ : Walk} → w′ ≡ w → {a : List ℕ} → Stands s z w a → Stands s z w′ a
   stands-on e {a} h = subst (λ (x : Walk). Stands s z x a) (sym e) h
 
+  -- a piece comes first, and where a turn leads
+  abbrev pub ComesFirst : Walk → Piece → List ℕ → Type 0
+  ComesFirst w q a = Comes s z (venueBy z g) hi w q a
+
+  abbrev pub LeadsTo : Walk → Walk → List ℕ → Type 0
+  LeadsTo w w′ a = LeadsOn s z (venueBy z g) hi w w′ a
+
   -- a step: a piece of the date at hand, or the next turn
   module _ (good : Valid first ats offsets) (w : Walk) (p : Pulled) (a : List ℕ) (h : Stands s z w a) (l : Looked s a hi w p) where
     pub come : {q : Piece} → p ≡ Next q → Comes s z (venueBy z g) hi w q a

@@ -32,7 +32,7 @@ slice-aggregate-report : tie.Need-slice-aggregate-report Inv-loop μ-loop
 slice-aggregate-report c = search needs
 
 report-requires : tie.Need-report-requires Inv-loop μ-loop
-report-requires c κs = search needs
+report-requires c κs = tt
 
 add-kind : tie.Need-add-kind Inv-loop μ-loop
 add-kind c = search needs

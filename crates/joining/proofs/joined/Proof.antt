@@ -3,7 +3,7 @@ use Rattle.joining.proofs.joined.Statement.{statement}
 use Rattle.joining.proofs.joined.Tie as tie
 
 widest-requires : tie.Need-widest-requires
-widest-requires c κs = search needs
+widest-requires c κs = tt
 
 add-t10 : tie.Need-add-t10
 add-t10 c = search needs

@@ -6,7 +6,7 @@ use Rattle.market_time.proofs.market_time_cells.Statement.{statement}
 use Rattle.market_time.proofs.market_time_cells.Tie as tie
 
 cells-answer-requires : tie.Need-cells-answer-requires
-cells-answer-requires c κs = search needs
+cells-answer-requires c κs = tt
 
 same-length : tie.Need-same-length
 same-length c = search needs

@@ -2,12 +2,11 @@ use mathlib.Core.Path.{ap, _∙_}
 use mir.Syntax.{w64}
 use mir.ValLaws.{toZ-ofZ}
 use Rattle.board.specs.Classes.{classReply}
-use borrow.Author.Needs.{needs}
 use Rattle.market_time.proofs.market_time_class.Statement.{statement}
 use Rattle.market_time.proofs.market_time_class.Tie as tie
 
 class-answer-requires : tie.Need-class-answer-requires
-class-answer-requires c κs = search needs
+class-answer-requires c κs = tt
 
 returns : tie.Need-returns
 returns c =

@@ -2,12 +2,11 @@ use mathlib.Core.Path.{ap, _∙_}
 use mir.Syntax.{w64}
 use mir.ValLaws.{toZ-ofZ}
 use Rattle.board.specs.Classes.{countReply}
-use borrow.Author.Needs.{needs}
 use Rattle.market_time.proofs.market_time_count.Statement.{statement}
 use Rattle.market_time.proofs.market_time_count.Tie as tie
 
 count-answer-requires : tie.Need-count-answer-requires
-count-answer-requires c κs = search needs
+count-answer-requires c κs = tt
 
 returns : tie.Need-returns
 returns c =

@@ -13,10 +13,10 @@ use Rattle.board.proofs.cells.cells_answer.Statement.{statement}
 use Rattle.board.proofs.cells.cells_answer.Tie as tie
 
 is-outside-requires : tie.Need-is-outside-requires
-is-outside-requires c κs = search needs
+is-outside-requires c κs = tt
 
 refused-requires : tie.Need-refused-requires
-refused-requires c κs = search needs
+refused-requires c κs = tt
 
 returns : tie.Need-returns
 returns c =
@@ -30,25 +30,25 @@ returns c =
     (at-is-outside .is-outside .ensures)) ∙ (at-if1 .if1 .taken)) _ (at-refused .refused .ensures)
 
 asked-window-requires : tie.Need-asked-window-requires
-asked-window-requires c κs = search needs
+asked-window-requires c κs = tt
 
 enum-known-n : tie.Need-enum-known-n
 enum-known-n c = search needs
 
 refused-requires-2 : tie.Need-refused-requires-2
-refused-requires-2 c κs = search needs
+refused-requires-2 c κs = tt
 
 enum-known-a : tie.Need-enum-known-a
 enum-known-a c = search needs
 
 place-requires : tie.Need-place-requires
-place-requires c κs = search needs
+place-requires c κs = tt
 
 place-requires-2 : tie.Need-place-requires-2
-place-requires-2 c κs = search needs
+place-requires-2 c κs = tt
 
 place-requires-3 : tie.Need-place-requires-3
-place-requires-3 c κs = search needs
+place-requires-3 c κs = tt
 
 tell-cells-requires : tie.Need-tell-cells-requires
 tell-cells-requires c κs =

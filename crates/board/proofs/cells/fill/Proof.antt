@@ -1,4 +1,3 @@
-use borrow.Author.Needs.{needs}
 use Rattle.board.proofs.Drawn.{Filling, fill-start, fill-one, fill-limit, fill-end}
 use Rattle.board.specs.Private.{ColumnOf}
 use Prim.Native.Nat.{_-_}
@@ -38,7 +37,7 @@ returns c =
     )
 
 cell-or-requires : tie.Need-cell-or-requires Inv-loop μ-loop
-cell-or-requires c κs = search needs
+cell-or-requires c κs = tt
 
 add-out : tie.Need-add-out Inv-loop μ-loop
 add-out c =

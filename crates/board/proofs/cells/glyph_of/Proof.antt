@@ -7,7 +7,7 @@ enum-known-shows : tie.Need-enum-known-shows
 enum-known-shows c = search needs
 
 phase-glyph-requires : tie.Need-phase-glyph-requires
-phase-glyph-requires c κs = search needs
+phase-glyph-requires c κs = tt
 
 enum-told : tie.Need-enum-told
 enum-told c = search needs

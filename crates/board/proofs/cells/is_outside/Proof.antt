@@ -5,7 +5,7 @@ use Rattle.board.proofs.cells.is_outside.Statement.{statement}
 use Rattle.board.proofs.cells.is_outside.Tie as tie
 
 asked-at-requires : tie.Need-asked-at-requires
-asked-at-requires c κs = search needs
+asked-at-requires c κs = tt
 
 enum-told : tie.Need-enum-told
 enum-told c = search needs

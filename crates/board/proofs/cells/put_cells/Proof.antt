@@ -132,7 +132,7 @@ fill-requires-3 c κs =
     (((at-start .pre) .1), (at-pace-of .pace-of .ensures), (at-loop .loop .inv) .0, omega (arith, (at-start .pre) .2, (at-loop .loop .inv) .1 .painted .kept))
 
 glyph-of-requires : tie.Need-glyph-of-requires Inv-loop μ-loop
-glyph-of-requires c κs = search needs
+glyph-of-requires c κs = tt
 
 fill-requires-4 : tie.Need-fill-requires-4 Inv-loop μ-loop
 fill-requires-4 c κs =

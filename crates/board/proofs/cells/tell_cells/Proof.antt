@@ -11,10 +11,10 @@ use Rattle.board.proofs.cells.tell_cells.Statement.{statement}
 use Rattle.board.proofs.cells.tell_cells.Tie as tie
 
 columns-of-requires : tie.Need-columns-of-requires
-columns-of-requires c κs = search needs
+columns-of-requires c κs = tt
 
 refused-requires : tie.Need-refused-requires
-refused-requires c κs = search needs
+refused-requires c κs = tt
 
 returns : tie.Need-returns
 returns c =
@@ -28,10 +28,10 @@ returns c =
     (at-refused .refused .ensures)
 
 good-row-requires : tie.Need-good-row-requires
-good-row-requires c κs = search needs
+good-row-requires c κs = tt
 
 refused-requires-2 : tie.Need-refused-requires-2
-refused-requires-2 c κs = search needs
+refused-requires-2 c κs = tt
 
 returns-2 : tie.Need-returns-2
 returns-2 c =
@@ -50,7 +50,7 @@ add-length : tie.Need-add-length
 add-length c = search needs
 
 refused-requires-3 : tie.Need-refused-requires-3
-refused-requires-3 c κs = search needs
+refused-requires-3 c κs = tt
 
 returns-3 : tie.Need-returns-3
 returns-3 c =
@@ -106,7 +106,7 @@ slice-write-out-2 c =
     omega (arith, (at-if3 .if3 .left), k)
 
 answered-requires : tie.Need-answered-requires
-answered-requires c κs = search needs
+answered-requires c κs = tt
 
 same-length : tie.Need-same-length
 same-length c =

@@ -13,22 +13,22 @@ use Rattle.board.proofs.classing.class_answer.Statement.{statement}
 use Rattle.board.proofs.classing.class_answer.Tie as tie
 
 asked-at-requires : tie.Need-asked-at-requires
-asked-at-requires c κs = search needs
+asked-at-requires c κs = tt
 
 enum-told : tie.Need-enum-told
 enum-told c = search needs
 
 no-class-requires : tie.Need-no-class-requires
-no-class-requires c κs = search needs
+no-class-requires c κs = tt
 
 enum-known-t : tie.Need-enum-known-t
 enum-known-t c = search needs
 
 good-row-requires : tie.Need-good-row-requires
-good-row-requires c κs = search needs
+good-row-requires c κs = tt
 
 no-class-requires-2 : tie.Need-no-class-requires-2
-no-class-requires-2 c κs = search needs
+no-class-requires-2 c κs = tt
 
 returns : tie.Need-returns
 returns c =
@@ -43,7 +43,7 @@ returns c =
     (sym (at-good-row .good-row .ensures) ∙ not-true _ (at-if1 .if1 .taken)) (at-no-class2 .no-class2 .ensures)
 
 place-requires : tie.Need-place-requires
-place-requires c κs = search needs
+place-requires c κs = tt
 
 row-class-requires : tie.Need-row-class-requires
 row-class-requires c κs =
@@ -53,7 +53,7 @@ row-class-requires c κs =
     here-row ((at-start .args .row) .now) (sym (at-good-row .good-row .ensures) ∙ not-false _ (at-if1 .if1 .left))
 
 number-of-requires : tie.Need-number-of-requires
-number-of-requires c κs = search needs
+number-of-requires c κs = tt
 
 returns-2 : tie.Need-returns-2
 returns-2 c =

@@ -1,5 +1,4 @@
 use Rattle.board.proofs.Shown.{class-early, class-late, class-held}
-use borrow.Author.Needs.{needs}
 use Rattle.board.proofs.classing.class_in.Statement.{statement}
 use Rattle.board.proofs.classing.class_in.Tie as tie
 
@@ -16,7 +15,7 @@ returns-2 c =
     class-late (at-start .args .g) (at-start .args .t) (at-if2 .if2 .taken)
 
 class-of-requires : tie.Need-class-of-requires
-class-of-requires c κs = search needs
+class-of-requires c κs = tt
 
 returns-3 : tie.Need-returns-3
 returns-3 c =

@@ -8,7 +8,7 @@ enum-known-shows : tie.Need-enum-known-shows
 enum-known-shows c = search needs
 
 is-trading-requires : tie.Need-is-trading-requires
-is-trading-requires c κs = search needs
+is-trading-requires c κs = tt
 
 returns : tie.Need-returns
 returns c =

@@ -52,10 +52,10 @@ enum-known-g : tie.Need-enum-known-g Inv-loop μ-loop
 enum-known-g c = search needs
 
 class-in-requires : tie.Need-class-in-requires Inv-loop μ-loop
-class-in-requires c κs = search needs
+class-in-requires c κs = tt
 
 first-requires : tie.Need-first-requires Inv-loop μ-loop
-first-requires c κs = search needs
+first-requires c κs = tt
 
 loop-less : tie.Need-loop-less Inv-loop μ-loop
 loop-less c =

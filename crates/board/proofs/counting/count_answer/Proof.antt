@@ -13,22 +13,22 @@ use Rattle.board.proofs.counting.count_answer.Statement.{statement}
 use Rattle.board.proofs.counting.count_answer.Tie as tie
 
 asked-at-requires : tie.Need-asked-at-requires
-asked-at-requires c κs = search needs
+asked-at-requires c κs = tt
 
 enum-told : tie.Need-enum-told
 enum-told c = search needs
 
 no-count-requires : tie.Need-no-count-requires
-no-count-requires c κs = search needs
+no-count-requires c κs = tt
 
 enum-known-t : tie.Need-enum-known-t
 enum-known-t c = search needs
 
 good-rows-requires : tie.Need-good-rows-requires
-good-rows-requires c κs = search needs
+good-rows-requires c κs = tt
 
 no-count-requires-2 : tie.Need-no-count-requires-2
-no-count-requires-2 c κs = search needs
+no-count-requires-2 c κs = tt
 
 returns : tie.Need-returns
 returns c =
@@ -43,7 +43,7 @@ returns c =
     (sym (at-good-rows .good-rows .ensures) ∙ not-true _ (at-if1 .if1 .taken)) (at-no-count2 .no-count2 .ensures)
 
 place-requires : tie.Need-place-requires
-place-requires c κs = search needs
+place-requires c κs = tt
 
 count-rows-requires : tie.Need-count-rows-requires
 count-rows-requires c κs =

@@ -8,7 +8,7 @@ use Rattle.board.proofs.grid.columns_of.Statement.{statement}
 use Rattle.board.proofs.grid.columns_of.Tie as tie
 
 place-requires : tie.Need-place-requires
-place-requires c κs = search needs
+place-requires c κs = tt
 
 add-if1 : tie.Need-add-if1
 add-if1 c = search needs

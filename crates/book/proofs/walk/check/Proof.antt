@@ -1,5 +1,4 @@
 use native.Mathlib.Omega.{arith}
-use borrow.Author.Needs.{needs}
 use Prim.Native.Nat.{ℕ, _-_, _+_}
 use mathlib.Core.Path.{sym, ap, _∙_}
 use lib.ListN.{length}
@@ -408,7 +407,7 @@ check-spec =
     add-next-2
     add-get2
     get2-requires-2
-    (λ c κs. search needs)
+    (λ c κs. tt)
     bad-fields-requires
     too-close-requires
     one-more-requires
@@ -420,7 +419,7 @@ check-spec =
     bad-item-requires
     item-time-requires
     add-least
-    (λ c κs. search needs)
+    (λ c κs. tt)
     add-item
     add-i
     points-less

@@ -10,7 +10,6 @@ use Rattle.zone.specs.Zone.{zoneOf}
 use Prim.Native.Nat.{ℕ, suc, _-_, _+_, _≤_, _<_}
 use mathlib.Core.Bool.{false}
 use mathlib.Core.Path.{_≡_, refl, sym, ap, ap₂, _∙_}
-use borrow.Author.Needs.{needs}
 use native.Mathlib.Omega.{arith}
 use Rattle.day.proofs.cut.span_after.Statement.{statement}
 use Rattle.day.proofs.cut.span_after.Tie as tie
@@ -330,7 +329,7 @@ span-after-spec =
     sub-raised
     mul-raised
     array-copy-out-raised
-    (λ c κs. search needs)
+    (λ c κs. tt)
     mul-boundaries
     array-set-from-boundaries
     add-i
@@ -340,7 +339,7 @@ span-after-spec =
     sub-raised-2
     mul-raised-2
     array-copy-out-raised-2
-    (λ c κs. search needs)
+    (λ c κs. tt)
     mul-boundaries-2
     array-set-from-boundaries-2
     loop2-holds
@@ -349,7 +348,7 @@ span-after-spec =
     add-end
     mul-end
     array-copy-out-end
-    (λ c κs. search needs)
+    (λ c κs. tt)
     point-phase-requires
     returns
     add-k

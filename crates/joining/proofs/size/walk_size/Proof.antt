@@ -83,10 +83,10 @@ rule-evidence-requires c κs =
     comes .fits .listed
 
 joins-requires : tie.Need-joins-requires Inv-pieces μ-pieces
-joins-requires c κs = search needs
+joins-requires c κs = tt
 
 record-size-requires : tie.Need-record-size-requires Inv-pieces μ-pieces
-record-size-requires c κs = search needs
+record-size-requires c κs = tt
 
 count-events-requires : tie.Need-count-events-requires Inv-pieces μ-pieces
 count-events-requires c κs =

@@ -6,7 +6,6 @@ use borrow.Author.Tests.{not-true, not-false}
 use Rattle.listing.proofs.Bounds.{head-fits}
 use Rattle.rows.proofs.Turns.{framed-holds}
 use native.Mathlib.Omega.{arith}
-use borrow.Author.Needs.{needs}
 use Rattle.listing.proofs.ask.list_text.Statement.{statement}
 use Rattle.listing.proofs.ask.list_text.Tie as tie
 
@@ -21,7 +20,7 @@ returns c =
     told (too-long ((at-start .args .input .now)) (omega (arith, (at-if1 .if1 .taken)))) (at-put-head .put-head .ensures) (omega arith)
 
 is-query-requires : tie.Need-is-query-requires
-is-query-requires c κs = search needs
+is-query-requires c κs = tt
 
 put-head-requires-2 : tie.Need-put-head-requires-2
 put-head-requires-2 c κs = head-fits _ 0 _ (omega arith) (omega arith) (omega arith)
@@ -44,7 +43,7 @@ signed8-requires c κs =
     omega (arith, (framed-holds ((at-start .args .input .now)) 0 33 18 (sym (at-is-query .is-query .ensures) ∙ not-false _ (at-if2 .if2 .left)) .0))
 
 unplace-requires : tie.Need-unplace-requires
-unplace-requires c κs = search needs
+unplace-requires c κs = tt
 
 signed8-requires-2 : tie.Need-signed8-requires-2
 signed8-requires-2 c κs =
@@ -54,7 +53,7 @@ signed8-requires-2 c κs =
     omega (arith, (framed-holds ((at-start .args .input .now)) 0 33 18 (sym (at-is-query .is-query .ensures) ∙ not-false _ (at-if2 .if2 .left)) .0))
 
 unplace-requires-2 : tie.Need-unplace-requires-2
-unplace-requires-2 c κs = search needs
+unplace-requires-2 c κs = tt
 
 sub-put-window : tie.Need-sub-put-window
 sub-put-window c =

@@ -6,19 +6,19 @@ use Rattle.pages.proofs.count.first_page.Statement.{statement}
 use Rattle.pages.proofs.count.first_page.Tie as tie
 
 row-end-requires : tie.Need-row-end-requires
-row-end-requires c κs = search needs
+row-end-requires c κs = tt
 
 sub-renew : tie.Need-sub-renew
 sub-renew c = search needs
 
 renew-requires : tie.Need-renew-requires
-renew-requires c κs = search needs
+renew-requires c κs = tt
 
 sub-renew-2 : tie.Need-sub-renew-2
 sub-renew-2 c = search needs
 
 renew-requires-2 : tie.Need-renew-requires-2
-renew-requires-2 c κs = search needs
+renew-requires-2 c κs = tt
 
 returns : tie.Need-returns
 returns c =

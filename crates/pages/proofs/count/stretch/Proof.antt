@@ -1,4 +1,3 @@
-use borrow.Author.Needs.{needs}
 use native.Mathlib.Omega.{arith}
 use Prim.Native.Nat.{_-_}
 use Rattle.pages.proofs.Paging.{Rolling, rolling-none, rolling-next, coming-whole, coming-row, coming-room, coming-turn, counted}
@@ -12,7 +11,7 @@ abbrev μ-rows : tie.MeasureT-rows
 μ-rows out₀ end from to slot row₀ whole a₀ b₀ at₀ out row a b at = end .0 - b .0
 
 part-requires : tie.Need-part-requires Inv-rows μ-rows
-part-requires c κs = search needs
+part-requires c κs = tt
 
 shift-requires : tie.Need-shift-requires Inv-rows μ-rows
 shift-requires c κs =
@@ -24,7 +23,7 @@ rows-holds : tie.Need-rows-holds Inv-rows μ-rows
 rows-holds c = rolling-none _ _ _ _ _ _ _ _ _
 
 part-requires-2 : tie.Need-part-requires-2 Inv-rows μ-rows
-part-requires-2 c κs = search needs
+part-requires-2 c κs = tt
 
 shift-requires-2 : tie.Need-shift-requires-2 Inv-rows μ-rows
 shift-requires-2 c κs =
@@ -43,7 +42,7 @@ put-day-requires c κs =
     coming-room (at-start .pre) ((at-rows .rows .inv)) ((at-part2 .part2 .ensures)) ((at-shift2 .shift2 .ensures)) (omega (arith, (at-if1 .if1 .left)))
 
 row-end-requires : tie.Need-row-end-requires Inv-rows μ-rows
-row-end-requires c κs = search needs
+row-end-requires c κs = tt
 
 sub-renew : tie.Need-sub-renew Inv-rows μ-rows
 sub-renew c =
@@ -61,7 +60,7 @@ sub-renew c =
     )
 
 renew-requires : tie.Need-renew-requires Inv-rows μ-rows
-renew-requires c κs = search needs
+renew-requires c κs = tt
 
 rows-less : tie.Need-rows-less Inv-rows μ-rows
 rows-less c =

@@ -1,4 +1,3 @@
-use borrow.Author.Needs.{needs}
 use native.Mathlib.Omega.{arith}
 use Prim.Native.Nat.{_-_}
 use Rattle.pages.proofs.Paging.{Cutting, cutting-none, cutting-next, cutting-end}
@@ -17,7 +16,7 @@ loop-holds c =
     cutting-none ((at-start .args .start)) ((at-start .args .end)) (at-start .pre)
 
 row-end-requires : tie.Need-row-end-requires Inv-loop μ-loop
-row-end-requires c κs = search needs
+row-end-requires c κs = tt
 
 add-count : tie.Need-add-count Inv-loop μ-loop
 add-count c =

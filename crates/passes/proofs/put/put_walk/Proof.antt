@@ -37,7 +37,7 @@ begin-requires c κs =
     ((at-start .pre) .0 .zone, (at-start .pre) .0 .rules-listed, keeps-blank _)
 
 blank-requires : tie.Need-blank-requires Inv-pieces μ-pieces
-blank-requires c κs = search needs
+blank-requires c κs = tt
 
 pieces-holds : tie.Need-pieces-holds Inv-pieces μ-pieces
 pieces-holds c =
@@ -62,7 +62,7 @@ cast-rule : tie.Need-cast-rule Inv-pieces μ-pieces
 cast-rule c = search needs
 
 last-of-requires : tie.Need-last-of-requires Inv-pieces μ-pieces
-last-of-requires c κs = search needs
+last-of-requires c κs = tt
 
 point-phase-requires : tie.Need-point-phase-requires Inv-pieces μ-pieces
 point-phase-requires c κs =
@@ -87,7 +87,7 @@ rule-evidence-requires c κs =
     comes .fits .listed
 
 joins-requires : tie.Need-joins-requires Inv-pieces μ-pieces
-joins-requires c κs = search needs
+joins-requires c κs = tt
 
 events-place-requires : tie.Need-events-place-requires Inv-pieces μ-pieces
 events-place-requires c κs =
@@ -165,7 +165,7 @@ head-of-requires c κs =
     ((at-start .pre .0 .zone), comes .fits)
 
 record-place-requires : tie.Need-record-place-requires Inv-pieces μ-pieces
-record-place-requires c κs = search needs
+record-place-requires c κs = tt
 
 told-requires : tie.Need-told-requires Inv-pieces μ-pieces
 told-requires c κs =

@@ -28,7 +28,7 @@ add-length : tie.Need-add-length
 add-length c = search needs
 
 refused-requires : tie.Need-refused-requires
-refused-requires c κs = search needs
+refused-requires c κs = tt
 
 returns : tie.Need-returns
 returns c =
@@ -48,7 +48,7 @@ returns c =
     (omega (arith, (at-if1 .if1 .taken), e, shown-length start-g-at0 start-g-end-at0 x, length-sorted os))) (at-refused .refused .ensures)
 
 widest-requires : tie.Need-widest-requires
-widest-requires c κs = search needs
+widest-requires c κs = tt
 
 cast-phase-of : tie.Need-cast-phase-of
 cast-phase-of c = search needs
@@ -74,7 +74,7 @@ put-events-requires c κs =
     )
 
 answered-requires : tie.Need-answered-requires
-answered-requires c κs = search needs
+answered-requires c κs = tt
 
 same-length : tie.Need-same-length
 same-length c = search needs

@@ -6,7 +6,7 @@ use Rattle.query.proofs.judge.asked_window.Statement.{statement}
 use Rattle.query.proofs.judge.asked_window.Tie as tie
 
 asked-at-requires : tie.Need-asked-at-requires
-asked-at-requires c κs = search needs
+asked-at-requires c κs = tt
 
 enum-told : tie.Need-enum-told
 enum-told c = search needs
@@ -15,7 +15,7 @@ enum-known-a : tie.Need-enum-known-a
 enum-known-a c = search needs
 
 asked-at-requires-2 : tie.Need-asked-at-requires-2
-asked-at-requires-2 c κs = search needs
+asked-at-requires-2 c κs = tt
 
 enum-told-2 : tie.Need-enum-told-2
 enum-told-2 c = search needs

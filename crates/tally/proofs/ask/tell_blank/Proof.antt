@@ -2,7 +2,6 @@ use native.Mathlib.Omega.{arith}
 use Prim.Native.Nat.{_-_}
 use Rattle.tally.proofs.Closing.{tally-long, tally-short, tally-written}
 use Rattle.tally.specs.Private.{rawBlank}
-use borrow.Author.Needs.{needs}
 use Rattle.tally.proofs.ask.tell_blank.Statement.{statement}
 use Rattle.tally.proofs.ask.tell_blank.Tie as tie
 
@@ -12,7 +11,7 @@ sub-if1 c =
     omega (arith, (at-start .pre))
 
 refused-requires : tie.Need-refused-requires
-refused-requires c κs = search needs
+refused-requires c κs = tt
 
 returns : tie.Need-returns
 returns c =
@@ -29,7 +28,7 @@ tally-size-requires c κs =
     omega (arith, (at-if1 .if1 .left))
 
 refused-requires-2 : tie.Need-refused-requires-2
-refused-requires-2 c κs = search needs
+refused-requires-2 c κs = tt
 
 returns-2 : tie.Need-returns-2
 returns-2 c =
@@ -50,7 +49,7 @@ put-blank-requires c κs =
     ((at-start .pre), omega (arith, (at-tally-size .tally-size .ensures), (at-if2 .if2 .left)))
 
 answered-requires : tie.Need-answered-requires
-answered-requires c κs = search needs
+answered-requires c κs = tt
 
 same-length : tie.Need-same-length
 same-length c =

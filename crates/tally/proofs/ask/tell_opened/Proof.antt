@@ -16,19 +16,19 @@ enum-known-opened : tie.Need-enum-known-opened
 enum-known-opened c = search needs
 
 refused-requires : tie.Need-refused-requires
-refused-requires c κs = search needs
+refused-requires c κs = tt
 
 enum-told : tie.Need-enum-told
 enum-told c = search needs
 
 asked-window-requires : tie.Need-asked-window-requires
-asked-window-requires c κs = search needs
+asked-window-requires c κs = tt
 
 enum-known-n : tie.Need-enum-known-n
 enum-known-n c = search needs
 
 refused-requires-2 : tie.Need-refused-requires-2
-refused-requires-2 c κs = search needs
+refused-requires-2 c κs = tt
 
 enum-known-a : tie.Need-enum-known-a
 enum-known-a c = search needs
@@ -46,13 +46,13 @@ enum-known-opened-2 : tie.Need-enum-known-opened-2
 enum-known-opened-2 c = search needs
 
 asked-window-requires-2 : tie.Need-asked-window-requires-2
-asked-window-requires-2 c κs = search needs
+asked-window-requires-2 c κs = tt
 
 enum-known-n-2 : tie.Need-enum-known-n-2
 enum-known-n-2 c = search needs
 
 refused-requires-3 : tie.Need-refused-requires-3
-refused-requires-3 c κs = search needs
+refused-requires-3 c κs = tt
 
 enum-known-a-2 : tie.Need-enum-known-a-2
 enum-known-a-2 c = search needs

@@ -3,7 +3,6 @@ use Prim.Native.Nat.{_-_}
 use Rattle.tally.proofs.Closing.{tally-long, tally-short, tally-written}
 use Rattle.day.specs.Meaning.{valuesAt}
 use Rattle.tally.specs.Private.{rawOf}
-use borrow.Author.Needs.{needs}
 use Rattle.tally.proofs.ask.tell_tally.Statement.{statement}
 use Rattle.tally.proofs.ask.tell_tally.Tie as tie
 
@@ -13,7 +12,7 @@ sub-if1 c =
     omega (arith, (at-start .pre) .2)
 
 refused-requires : tie.Need-refused-requires
-refused-requires c κs = search needs
+refused-requires c κs = tt
 
 returns : tie.Need-returns
 returns c =
@@ -30,7 +29,7 @@ tally-size-requires c κs =
     omega (arith, (at-if1 .if1 .left))
 
 refused-requires-2 : tie.Need-refused-requires-2
-refused-requires-2 c κs = search needs
+refused-requires-2 c κs = tt
 
 returns-2 : tie.Need-returns-2
 returns-2 c =
@@ -52,7 +51,7 @@ put-tallies-requires c κs =
     ((at-start .pre) .0, (at-start .pre) .1, (at-start .pre) .2, omega (arith, (at-tally-size .tally-size .ensures), (at-if2 .if2 .left)))
 
 answered-requires : tie.Need-answered-requires
-answered-requires c κs = search needs
+answered-requires c κs = tt
 
 same-length : tie.Need-same-length
 same-length c =

@@ -1,4 +1,4 @@
-use Rattle.tally.proofs.Passing.{pieces, stands-on, come, shown, gone, turned, Walked, walked-none, walked-coming, walked-next, walked-less, walk-standing, turn-walked, turn-less, walk-counted}
+use Rattle.tally.proofs.Passing.{pieces, stands-on, ComesFirst, come, shown, gone, turned, Walked, walked-none, walked-coming, walked-next, walked-less, walk-standing, turn-walked, turn-less, walk-counted}
 use Rattle.venue.proofs.Laws.{good-rule}
 use Rattle.walk.specs.Walking.{Stands}
 use Rattle.walk.specs.Keeping.{Keeps}
@@ -22,15 +22,31 @@ abbrev μ-pieces : tie.MeasureT-pieces
 μ-pieces book first ats offsets rules hi start end out₀ row₀ whole₀ kept₀ edges₀ w₀ place₀ out row whole kept edges w place =
     length (pieces book first ats offsets rules (hi .0) w) + w .turns
 
-sub-begin : tie.Need-sub-begin Inv-pieces μ-pieces
+-- a need, or a place, at this invariant and measure
+abbrev At : (tie.InvT-pieces → tie.MeasureT-pieces → Type 0) → Type 0
+At it = it Inv-pieces μ-pieces
+
+-- the piece at hand comes first
+comes-at : (c : At tie.After-q)
+    → let at-pieces = c .before .before .before .before in
+    let args = at-pieces .before .before .before .before .before .before .before .before .before .args in
+    ComesFirst (args .book .now) (args .first) (args .ats .now) (args .offsets .now) (args .rules .now) (args .hi .0) (at-pieces .pieces .w) (c .q .given .0 .0) (at-pieces .pieces .edges)
+comes-at c =
+    let at-here = c .before .before in
+    let at-pieces = at-here .before .before in
+    let at-start = at-pieces .before .before .before .before .before .before .before .before .before in
+    let args = at-start .args in
+    come (args .book .now) (args .first) (args .ats .now) (args .offsets .now) (args .rules .now) (args .hi .0) (at-start .pre .0) _ _ _ (at-pieces .pieces .inv .0) (at-here .here .ensures) (c .q .given .1)
+
+sub-begin : At tie.Need-sub-begin
 sub-begin c = omega arith
 
-begin-requires : tie.Need-begin-requires Inv-pieces μ-pieces
+begin-requires : At tie.Need-begin-requires
 begin-requires c κs =
     let at-start = c .before .before .before .before .before .before .before in
     ((at-start .pre) .0, (at-start .pre) .1, keeps-blank _)
 
-pieces-holds : tie.Need-pieces-holds Inv-pieces μ-pieces
+pieces-holds : At tie.Need-pieces-holds
 pieces-holds c =
     let at-begin = c in
     let at-start = at-begin .before .before .before .before .before .before .before .before in
@@ -41,32 +57,31 @@ pieces-holds c =
       (at-begin .begin .ensures .1),
     )
 
-here-requires : tie.Need-here-requires Inv-pieces μ-pieces
+here-requires : At tie.Need-here-requires
 here-requires c κs =
     let at-pieces = c .before in
     stands-held ((at-pieces .pieces .inv) .0)
 
-enum-known-q : tie.Need-enum-known-q Inv-pieces μ-pieces
+enum-known-q : At tie.Need-enum-known-q
 enum-known-q c = search needs
 
-cast-point-phase : tie.Need-cast-point-phase Inv-pieces μ-pieces
+cast-point-phase : At tie.Need-cast-point-phase
 cast-point-phase c = search needs
 
-point-phase-requires : tie.Need-point-phase-requires Inv-pieces μ-pieces
+point-phase-requires : At tie.Need-point-phase-requires
 point-phase-requires c κs =
     let at-q = c .before .before .before .before in
     let at-here = at-q .before .before in
     let at-pieces = at-here .before .before in
     let at-start = at-pieces .before .before .before .before .before .before .before .before .before in
     let args = at-start .args in
-    let comes = come (args .book .now) (args .first) (args .ats .now) (args .offsets .now) (args .rules .now) (args .hi .0) (at-start .pre .0) _ _ _
-    (at-pieces .pieces .inv .0) (at-here .here .ensures) (at-q .q .given .1) in
+    let comes = comes-at at-q in
     (comes .fits .listed, comes .fits .point)
 
-cast-stretch : tie.Need-cast-stretch Inv-pieces μ-pieces
+cast-stretch : At tie.Need-cast-stretch
 cast-stretch c = search needs
 
-stretch-requires : tie.Need-stretch-requires Inv-pieces μ-pieces
+stretch-requires : At tie.Need-stretch-requires
 stretch-requires c κs =
     let at-point-phase = c .before .before .before in
     let at-q = at-point-phase .before .before .before .before .before in
@@ -74,28 +89,24 @@ stretch-requires c κs =
     let at-pieces = at-here .before .before in
     let at-begin = at-pieces .before in
     let at-start = at-begin .before .before .before .before .before .before .before .before in
-    let start-offsets = at-start .args .offsets .now in
-    let start-rules = at-start .args .rules .now in
     let args = at-start .args in
-    let comes = come (args .book .now) (args .first) (args .ats .now) start-offsets start-rules (args .hi .0) (at-start .pre .0) _ _ _
-    (at-pieces .pieces .inv .0) (at-here .here .ensures) (at-q .q .given .1) in
-    walked-coming (args .book .now) (args .first) (args .ats .now) start-offsets start-rules (args .hi .0) (at-pieces .pieces .inv .1) comes
+    let comes = comes-at at-q in
+    walked-coming (args .book .now) (args .first) (args .ats .now) (args .offsets .now) (args .rules .now) (args .hi .0) (at-pieces .pieces .inv .1) comes
     (at-point-phase .point-phase .ensures) (at-start .pre .2 .all) (at-start .pre .2 .last) (at-start .pre .2 .room) (walk-standing (args .book .now)
-    (args .first) (args .ats .now) start-offsets start-rules (args .hi .0) (at-begin .begin .ensures .0) (at-start .pre .2 .last)
+    (args .first) (args .ats .now) (args .offsets .now) (args .rules .now) (args .hi .0) (at-begin .begin .ensures .0) (at-start .pre .2 .last)
     (at-start .pre .2 .stands))
 
-behind-requires : tie.Need-behind-requires Inv-pieces μ-pieces
+behind-requires : At tie.Need-behind-requires
 behind-requires c κs =
     let at-q = c .before .before .before .before .before .before .before .before .before .before .before in
     let at-here = at-q .before .before in
     let at-pieces = at-here .before .before in
     let at-start = at-pieces .before .before .before .before .before .before .before .before .before in
     let args = at-start .args in
-    let comes = come (args .book .now) (args .first) (args .ats .now) (args .offsets .now) (args .rules .now) (args .hi .0) (at-start .pre .0) _ _ _
-    (at-pieces .pieces .inv .0) (at-here .here .ensures) (at-q .q .given .1) in
+    let comes = comes-at at-q in
     omega (arith, comes .fits .point, good-rule (args .book .now) _ (comes .fits .listed) .few)
 
-pieces-less : tie.Need-pieces-less Inv-pieces μ-pieces
+pieces-less : At tie.Need-pieces-less
 pieces-less c =
     let at-behind = c in
     let at-point-phase = at-behind .before .before .before .before .before .before .before in
@@ -104,12 +115,11 @@ pieces-less c =
     let at-pieces = at-here .before .before in
     let at-start = at-pieces .before .before .before .before .before .before .before .before .before in
     let args = at-start .args in
-    let comes = come (args .book .now) (args .first) (args .ats .now) (args .offsets .now) (args .rules .now) (args .hi .0) (at-start .pre .0) _ _ _
-    (at-pieces .pieces .inv .0) (at-here .here .ensures) (at-q .q .given .1) in
+    let comes = comes-at at-q in
     walked-less (args .book .now) (args .first) (args .ats .now) (args .offsets .now) (args .rules .now) (args .hi .0) (at-pieces .pieces .inv .1)
     comes (at-point-phase .point-phase .ensures) (at-behind .behind .ensures)
 
-pieces-again : tie.Need-pieces-again Inv-pieces μ-pieces
+pieces-again : At tie.Need-pieces-again
 pieces-again c =
     let at-behind = c in
     let at-stretch = at-behind .before .before .before in
@@ -118,21 +128,18 @@ pieces-again c =
     let at-here = at-q .before .before in
     let at-pieces = at-here .before .before in
     let at-start = at-pieces .before .before .before .before .before .before .before .before .before in
-    let start-offsets = at-start .args .offsets .now in
-    let start-rules = at-start .args .rules .now in
     let args = at-start .args in
-    let comes = come (args .book .now) (args .first) (args .ats .now) start-offsets start-rules (args .hi .0) (at-start .pre .0) _ _ _
-    (at-pieces .pieces .inv .0) (at-here .here .ensures) (at-q .q .given .1) in (
-      stands-on (args .book .now) (args .first) (args .ats .now) start-offsets start-rules (args .hi .0) (at-behind .behind .ensures) (comes .stands),
-      walked-next (args .book .now) (args .first) (args .ats .now) start-offsets start-rules (args .hi .0) (at-pieces .pieces .inv .1) comes
+    let comes = comes-at at-q in (
+      stands-on (args .book .now) (args .first) (args .ats .now) (args .offsets .now) (args .rules .now) (args .hi .0) (at-behind .behind .ensures) (comes .stands),
+      walked-next (args .book .now) (args .first) (args .ats .now) (args .offsets .now) (args .rules .now) (args .hi .0) (at-pieces .pieces .inv .1) comes
           (at-point-phase .point-phase .ensures) (at-stretch .stretch .ensures) (at-behind .behind .ensures),
       (at-pieces .pieces .inv .2),
     )
 
-enum-told : tie.Need-enum-told Inv-pieces μ-pieces
+enum-told : At tie.Need-enum-told
 enum-told c = search needs
 
-turn-on-requires : tie.Need-turn-on-requires Inv-pieces μ-pieces
+turn-on-requires : At tie.Need-turn-on-requires
 turn-on-requires c κs =
     let at-enum-told = c .before .before in
     let at-here = at-enum-told .before .before in
@@ -147,13 +154,13 @@ turn-on-requires c κs =
           (at-enum-told .enum-told .given .1),
     )
 
-enum-told-2 : tie.Need-enum-told-2 Inv-pieces μ-pieces
+enum-told-2 : At tie.Need-enum-told-2
 enum-told-2 c = search needs
 
-enum-known-next : tie.Need-enum-known-next Inv-pieces μ-pieces
+enum-known-next : At tie.Need-enum-known-next
 enum-known-next c = search needs
 
-pieces-less-2 : tie.Need-pieces-less-2 Inv-pieces μ-pieces
+pieces-less-2 : At tie.Need-pieces-less-2
 pieces-less-2 c =
     let at-next = c .before in
     let at-turn-on = at-next .before .before in
@@ -164,7 +171,7 @@ pieces-less-2 c =
     (at-turn-on .turn-on .ensures .0) (at-next .next .given .1) in
     turn-less (args .book .now) (args .first) (args .ats .now) (args .offsets .now) (args .rules .now) (args .hi .0) (at-pieces .pieces .inv .1) on
 
-pieces-again-2 : tie.Need-pieces-again-2 Inv-pieces μ-pieces
+pieces-again-2 : At tie.Need-pieces-again-2
 pieces-again-2 c =
     let at-next = c .before in
     let at-turn-on = at-next .before .before in
@@ -179,12 +186,12 @@ pieces-again-2 c =
       (at-turn-on .turn-on .ensures .1),
     )
 
-same-length : tie.Need-same-length Inv-pieces μ-pieces
+same-length : At tie.Need-same-length
 same-length c =
     let at-pieces = c .before .before .before .before .before .before .before .before .before in
     ((at-pieces .pieces .inv) .1) .kept
 
-returns : tie.Need-returns Inv-pieces μ-pieces
+returns : At tie.Need-returns
 returns c =
     let at-enum-told2 = c in
     let at-turn-on = at-enum-told2 .before .before in

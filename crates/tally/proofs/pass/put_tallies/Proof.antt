@@ -10,16 +10,16 @@ use Rattle.tally.proofs.pass.put_tallies.Statement.{statement}
 use Rattle.tally.proofs.pass.put_tallies.Tie as tie
 
 earlier-requires : tie.Need-earlier-requires
-earlier-requires c κs = search needs
+earlier-requires c κs = tt
 
 later-requires : tie.Need-later-requires
-later-requires c κs = search needs
+later-requires c κs = tt
 
 earlier-requires-2 : tie.Need-earlier-requires-2
-earlier-requires-2 c κs = search needs
+earlier-requires-2 c κs = tt
 
 later-requires-2 : tie.Need-later-requires-2
-later-requires-2 c κs = search needs
+later-requires-2 c κs = tt
 
 first-page-requires : tie.Need-first-page-requires
 first-page-requires c κs = search needs

@@ -10,7 +10,7 @@ use Rattle.timeline.proofs.ask.tell_empty.Statement.{statement}
 use Rattle.timeline.proofs.ask.tell_empty.Tie as tie
 
 refused-requires : tie.Need-refused-requires
-refused-requires c κs = search needs
+refused-requires c κs = tt
 
 returns : tie.Need-returns
 returns c =
@@ -28,7 +28,7 @@ put-unknown-requires c κs =
     omega (arith, (at-if1 .if1 .left), gap-some (at-start .pre))
 
 answered-requires : tie.Need-answered-requires
-answered-requires c κs = search needs
+answered-requires c κs = tt
 
 same-length : tie.Need-same-length
 same-length c = search needs

@@ -3,21 +3,20 @@ use native.Mathlib.Omega.{arith}
 use Rattle.answer.specs.declared.Covered.the-variants.{Between}
 use Rattle.day.specs.Meaning.{valuesAt}
 use Rattle.timeline.proofs.Parts.{told-short, walk-room, last-room, told-written}
-use borrow.Author.Needs.{needs}
 use Rattle.timeline.proofs.ask.tell_venue.Statement.{statement}
 use Rattle.timeline.proofs.ask.tell_venue.Tie as tie
 
 earlier-requires : tie.Need-earlier-requires
-earlier-requires c κs = search needs
+earlier-requires c κs = tt
 
 later-requires : tie.Need-later-requires
-later-requires c κs = search needs
+later-requires c κs = tt
 
 earlier-requires-2 : tie.Need-earlier-requires-2
-earlier-requires-2 c κs = search needs
+earlier-requires-2 c κs = tt
 
 later-requires-2 : tie.Need-later-requires-2
-later-requires-2 c κs = search needs
+later-requires-2 c κs = tt
 
 walk-size-requires : tie.Need-walk-size-requires
 walk-size-requires c κs =
@@ -25,7 +24,7 @@ walk-size-requires c κs =
     ((at-start .pre))
 
 gap-size-requires : tie.Need-gap-size-requires
-gap-size-requires c κs = search needs
+gap-size-requires c κs = tt
 
 add-length : tie.Need-add-length
 add-length c =
@@ -34,7 +33,7 @@ add-length c =
     omega (arith, (at-gap-size .gap-size .ensures) .1, (at-walk-size .walk-size .ensures) .1)
 
 gap-size-requires-2 : tie.Need-gap-size-requires-2
-gap-size-requires-2 c κs = search needs
+gap-size-requires-2 c κs = tt
 
 add-length-2 : tie.Need-add-length-2
 add-length-2 c =
@@ -44,7 +43,7 @@ add-length-2 c =
     omega (arith, (at-gap-size .gap-size .ensures) .1, (at-gap-size2 .gap-size2 .ensures) .1, (at-walk-size .walk-size .ensures) .1)
 
 refused-requires : tie.Need-refused-requires
-refused-requires c κs = search needs
+refused-requires c κs = tt
 
 returns : tie.Need-returns
 returns c =
@@ -113,7 +112,7 @@ put-unknown-requires-2 c κs =
     (at-put-unknown .put-unknown .ensures) (at-put-walk .put-walk .ensures)
 
 answered-requires : tie.Need-answered-requires
-answered-requires c κs = search needs
+answered-requires c κs = tt
 
 same-length : tie.Need-same-length
 same-length c =

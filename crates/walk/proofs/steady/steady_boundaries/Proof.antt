@@ -1,4 +1,3 @@
-use borrow.Author.Needs.{needs}
 use native.Mathlib.Omega.{arith}
 use lib.ListN.{length-set}
 use Prim.Native.Nat.{_-_}
@@ -37,7 +36,7 @@ add-later c =
     omega (arith, (at-point-time .point-time .ensures) .1, (at-start .pre) .2)
 
 later-requires : tie.Need-later-requires Inv-loop μ-loop
-later-requires c κs = search needs
+later-requires c κs = tt
 
 mul-edges : tie.Need-mul-edges Inv-loop μ-loop
 mul-edges c =
@@ -99,7 +98,7 @@ add-later-2 c =
     omega (arith, (at-start .pre) .2)
 
 later-requires-2 : tie.Need-later-requires-2 Inv-loop μ-loop
-later-requires-2 c κs = search needs
+later-requires-2 c κs = tt
 
 mul-edges-2 : tie.Need-mul-edges-2 Inv-loop μ-loop
 mul-edges-2 c =

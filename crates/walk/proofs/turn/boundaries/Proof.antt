@@ -1,4 +1,3 @@
-use borrow.Author.Needs.{needs}
 use Rattle.walk.proofs.Filling.{Filling, filling-none, filling-next, filled, ClearTo, clear-next, clear-all}
 use Rattle.zone.specs.Zone.{zoneOf}
 use Rattle.zone.specs.Answers.{boundaryAt}
@@ -46,10 +45,10 @@ to-utc-at-requires c κs =
     (at-start .pre) .0
 
 later-requires : tie.Need-later-requires Inv-loop μ-loop
-later-requires c κs = search needs
+later-requires c κs = tt
 
 is-exact-requires : tie.Need-is-exact-requires Inv-loop μ-loop
-is-exact-requires c κs = search needs
+is-exact-requires c κs = tt
 
 mul-edges : tie.Need-mul-edges Inv-loop μ-loop
 mul-edges c =
@@ -121,7 +120,7 @@ midnight-after-requires c κs =
     (at-start .pre) .0
 
 later-requires-2 : tie.Need-later-requires-2 Inv-loop μ-loop
-later-requires-2 c κs = search needs
+later-requires-2 c κs = tt
 
 mul-edges-2 : tie.Need-mul-edges-2 Inv-loop μ-loop
 mul-edges-2 c =
@@ -138,7 +137,7 @@ slice-write-edges-2 c =
     let n = (at-rule-points .rule-points .ensures) in let l = (at-loop .loop .inv) .0 .long in let p = (at-start .pre) .2 in omega (arith, n .2, l, p)
 
 is-exact-requires-2 : tie.Need-is-exact-requires-2 Inv-loop μ-loop
-is-exact-requires-2 c κs = search needs
+is-exact-requires-2 c κs = tt
 
 same-length : tie.Need-same-length Inv-loop μ-loop
 same-length c =

@@ -13,7 +13,7 @@ returns : tie.Need-returns
 returns c = search needs
 
 sought-requires : tie.Need-sought-requires
-sought-requires c κs = search needs
+sought-requires c κs = tt
 
 returns-2 : tie.Need-returns-2
 returns-2 c = search needs

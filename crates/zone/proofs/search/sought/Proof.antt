@@ -5,7 +5,7 @@ use Rattle.zone.proofs.search.sought.Statement.{statement}
 use Rattle.zone.proofs.search.sought.Tie as tie
 
 guess-requires : tie.Need-guess-requires
-guess-requires c κs = search needs
+guess-requires c κs = tt
 
 last-at-requires : tie.Need-last-at-requires
 last-at-requires c κs = search needs
@@ -14,7 +14,7 @@ add-next-at : tie.Need-add-next-at
 add-next-at c = search needs
 
 next-at-requires : tie.Need-next-at-requires
-next-at-requires c κs = search needs
+next-at-requires c κs = tt
 
 add-bisected : tie.Need-add-bisected
 add-bisected c = search needs

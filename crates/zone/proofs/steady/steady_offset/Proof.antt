@@ -31,10 +31,10 @@ sub-passed : tie.Need-sub-passed
 sub-passed c = search needs
 
 passed-requires : tie.Need-passed-requires
-passed-requires c κs = search needs
+passed-requires c κs = tt
 
 next-at-requires : tie.Need-next-at-requires
-next-at-requires c κs = search needs
+next-at-requires c κs = tt
 
 add-if3 : tie.Need-add-if3
 add-if3 c = search needs
