@@ -20,12 +20,13 @@ use Rattle.rows.specs.declared.Shows.{Shows}
 use Rattle.rows.specs.declared.Shows.the-variants.{Phase}
 use Rattle.rows.specs.declared.Segment.{Segment}
 use Rattle.rows.proofs.Laws.{here-row, good-within}
-use Rattle.board.specs.Classes.{shownAt}
+use Rattle.classes.specs.Classes.{shownAt}
 use Rattle.board.specs.Cells.{cellInstant, phaseGlyph, glyph, cellOr, cell, cellsFrom, drawn}
-use Rattle.board.specs.Private.{Good, markOf, alike, Filled}
+use Rattle.classes.specs.Reading.{markOf}
+use Rattle.board.specs.Private.{Good, alike, Filled}
 use Rattle.board.specs.declared.grid.Grid.{Grid}
 use Rattle.board.proofs.Columns.{instant-rises, instant-in}
-use Rattle.board.proofs.Shown.{seen-mark}
+use Rattle.classes.proofs.Shown.{seen-mark}
 
 -- ---- glyphs
 

@@ -12,7 +12,7 @@ use Rattle.records.specs.Book.{inside, instants, refuse}
 use Rattle.spans.specs.Spans.{Mark, phase, unknown, Span}
 use Rattle.query.specs.Judging.{windowRefusal}
 use Rattle.rows.specs.Rows.{Seen, segments, rowRefusal}
-use Rattle.board.specs.Classes.{shownAt}
+use Rattle.classes.specs.Classes.{shownAt}
 use Rattle.board.specs.declared.grid.Grid.{Grid}
 
 abbrev pub fewestColumns : ℕ

@@ -14,7 +14,7 @@ use Rattle.query.specs.Judging.{windowRefusal}
 use Rattle.answer.specs.Forms
 use Rattle.answer.specs.Forms.{Form, phase, unknown, mark, encode, encodeAll}
 use Rattle.rows.specs.Rows.{goodPhase, goodGap, goodEvent, goodEvents, goodFrom, goodRow, goodRows, eventsFrom, segmentsFrom, markFrom, rowsFrom}
-use Rattle.board.specs.Classes.{classReply, countReply, numberOf}
+use Rattle.classes.specs.Classes.{classReply, countReply, numberOf}
 use Rattle.board.specs.Cells.{columnsOf, phaseGlyph, cellsFrom, cellsNumber, cellsAnswer}
 
 abbrev exact : Values

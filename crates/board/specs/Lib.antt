@@ -1,4 +1,3 @@
-pub mod Classes
 pub mod Cells
 pub mod Private
 pub mod Examples

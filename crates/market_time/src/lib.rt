@@ -1,16 +1,16 @@
 // The boundary: what the dashboard's server links against, as C functions. Every entry takes every book, row, query and room.
 ghost use mathlib.Core.Path.{_≡_};
 ghost use Rattle.board.specs.Cells.{cellsNumber, cellsAnswer};
-ghost use Rattle.board.specs.Classes.{classReply, countReply};
+ghost use Rattle.classes.specs.Classes.{classReply, countReply};
 ghost use Rattle.lend.specs.Lending.{Lent};
 ghost use Rattle.point.specs.Asking.{pointNumber, pointAnswer};
 ghost use Rattle.timeline.specs.Asking.{windowNumber, windowAnswer};
 ghost use Rattle.tally.specs.Tallying.{tallyNumber, tallyAnswer};
-use board::ClassReply;
-use board::CountReply;
 use board::cells_answer;
-use board::class_answer;
-use board::count_answer;
+use classes::ClassReply;
+use classes::CountReply;
+use classes::class_answer;
+use classes::count_answer;
 use lend::Reply;
 use point::point_answer;
 use tally::tally_answer;

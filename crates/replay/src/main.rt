@@ -3,12 +3,12 @@
 // oracle/compare/src/list.rs says how.
 ghost use Prim.Native.Nat.{_≤_};
 use board::cells_answer;
-use board::class_answer;
-use board::count_answer;
 use cases::met;
 use cases::number;
 use cases::report;
 use cases::report_refusals;
+use classes::class_answer;
+use classes::count_answer;
 use lend::Reply;
 use lend::refused;
 use point::point_answer;

@@ -1,7 +1,7 @@
 use mathlib.Core.Path.{ap, _∙_}
 use mir.Syntax.{w64}
 use mir.ValLaws.{toZ-ofZ}
-use Rattle.board.specs.Classes.{classReply}
+use Rattle.classes.specs.Classes.{classReply}
 use Rattle.market_time.proofs.market_time_class.Statement.{statement}
 use Rattle.market_time.proofs.market_time_class.Tie as tie
 

@@ -1,7 +1,7 @@
 use mathlib.Core.Path.{ap, _∙_}
 use mir.Syntax.{w64}
 use mir.ValLaws.{toZ-ofZ}
-use Rattle.board.specs.Classes.{countReply}
+use Rattle.classes.specs.Classes.{countReply}
 use Rattle.market_time.proofs.market_time_count.Statement.{statement}
 use Rattle.market_time.proofs.market_time_count.Tie as tie
 

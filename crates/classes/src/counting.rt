@@ -2,8 +2,8 @@
 ghost use mathlib.Core.Path.{_≡_};
 ghost use mathlib.Core.Bool.{true};
 ghost use Rattle.rows.specs.Rows.{goodRows, rows as Rows·rows};
-ghost use Rattle.board.specs.Classes.{countReply};
-ghost use Rattle.board.specs.Private.{Few, Added, Counted};
+ghost use Rattle.classes.specs.Classes.{countReply};
+ghost use Rattle.classes.specs.Reading.{Few, Added, Counted};
 use crate::BAD_ROW;
 use crate::Class;
 use crate::CountReply;

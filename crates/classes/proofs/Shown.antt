@@ -14,10 +14,10 @@ use Rattle.rows.specs.Telling.{markAt, rowsAt, seenAs, spanAs, Ended, Marked, S
 use Rattle.rows.specs.declared.Shows.{Shows}
 use Rattle.rows.specs.declared.Shows.the-variants.{Phase, Unknown}
 use Rattle.rows.specs.declared.Segment.{Segment}
-use Rattle.board.specs.Classes.{shownAt, classOf, classAt}
-use Rattle.board.specs.Private.{markOf, marks, classIn, firstOf, Classes}
-use Rattle.board.specs.declared.Class.{Class}
-use Rattle.board.specs.declared.Class.the-variants.{Trading, NotTrading, NotKnown, NotShown}
+use Rattle.classes.specs.Classes.{shownAt, classOf, classAt}
+use Rattle.classes.specs.Reading.{markOf, marks, classIn, firstOf, Classes}
+use Rattle.classes.specs.declared.Class.{Class}
+use Rattle.classes.specs.declared.Class.the-variants.{Trading, NotTrading, NotKnown, NotShown}
 
 -- ---- a segment's class
 

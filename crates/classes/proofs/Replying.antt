@@ -8,11 +8,11 @@ use mir.Syntax.{w64}
 use Rattle.wire.specs.Signs.{placed}
 use Rattle.records.specs.Book.{inside, instants}
 use Rattle.rows.specs.Rows.{goodRow, goodRows, segments, rows}
-use Rattle.board.specs.Classes.{classNumber, classAt, classReply, countReply}
-use Rattle.board.specs.Private.{Counted}
-use Rattle.board.specs.declared.ClassReply.{ClassReply}
-use Rattle.board.specs.declared.CountReply.{CountReply}
-use Rattle.board.specs.declared.counting.Counts.{Counts}
+use Rattle.classes.specs.Classes.{classNumber, classAt, classReply, countReply}
+use Rattle.classes.specs.Reading.{Counted}
+use Rattle.classes.specs.declared.ClassReply.{ClassReply}
+use Rattle.classes.specs.declared.CountReply.{CountReply}
+use Rattle.classes.specs.declared.counting.Counts.{Counts}
 
 module _ (s : List ℕ) (at : ℤ) where
   module _ (r : ClassReply) where

@@ -9,12 +9,12 @@ use lib.ListN.{length}
 use Rattle.rows.specs.Rows.{Row, goodRows, rows}
 use Rattle.rows.specs.Telling.{markAt, rowsAt}
 use Rattle.rows.proofs.Laws.{rows-begin}
-use Rattle.board.specs.Classes.{classAt, classNumber, one, numberOf}
-use Rattle.board.specs.Private.{Another, Follows, Classes, Few, Added, Counted}
-use Rattle.board.specs.declared.Class.{Class}
-use Rattle.board.specs.declared.Class.the-variants.{Trading, NotTrading, NotKnown, NotShown}
-use Rattle.board.specs.declared.classing.Classed.{Classed}
-use Rattle.board.specs.declared.counting.Counts.{Counts}
+use Rattle.classes.specs.Classes.{classAt, classNumber, one, numberOf}
+use Rattle.classes.specs.Reading.{Another, Follows, Classes, Few, Added, Counted}
+use Rattle.classes.specs.declared.Class.{Class}
+use Rattle.classes.specs.declared.Class.the-variants.{Trading, NotTrading, NotKnown, NotShown}
+use Rattle.classes.specs.declared.classing.Classed.{Classed}
+use Rattle.classes.specs.declared.counting.Counts.{Counts}
 
 -- the sum so far, of the rows up to a place, and what follows there
 pub record Summing (s : List ℕ) (t : ℕ) (c : Classed) (sum : Counts) : Type 0 where

@@ -6,11 +6,11 @@ use Rattle.wire.specs.Signs.{placed}
 use Rattle.query.proofs.Instants.{asked-outside, asked-in}
 use Rattle.rows.proofs.Laws.{here-row}
 use Rattle.rows.specs.Rows.{segments}
-use Rattle.board.specs.Classes.{classNumber, classAt}
-use Rattle.board.proofs.Replying.{class-outside, class-bad, class-told}
+use Rattle.classes.specs.Classes.{classNumber, classAt}
+use Rattle.classes.proofs.Replying.{class-outside, class-bad, class-told}
 use borrow.Author.Needs.{needs}
-use Rattle.board.proofs.classing.class_answer.Statement.{statement}
-use Rattle.board.proofs.classing.class_answer.Tie as tie
+use Rattle.classes.proofs.classing.class_answer.Statement.{statement}
+use Rattle.classes.proofs.classing.class_answer.Tie as tie
 
 asked-at-requires : tie.Need-asked-at-requires
 asked-at-requires c κs = tt

@@ -4,9 +4,9 @@ use lib.ListN.{length}
 use Prim.Native.Nat.{_-_}
 use mathlib.Core.Path.{subst}
 use Rattle.rows.specs.Telling.{Tells}
-use Rattle.board.proofs.Shown.{Along, along-start, along-end, along-mark, along-on}
-use Rattle.board.proofs.classing.row_class.Statement.{statement}
-use Rattle.board.proofs.classing.row_class.Tie as tie
+use Rattle.classes.proofs.Shown.{Along, along-start, along-end, along-mark, along-on}
+use Rattle.classes.proofs.classing.row_class.Statement.{statement}
+use Rattle.classes.proofs.classing.row_class.Tie as tie
 
 abbrev Inv-loop : tie.InvT-loop
 Inv-loop rows at t place₀ shown₀ place shown = Along rows at t place shown

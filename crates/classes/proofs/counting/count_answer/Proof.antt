@@ -6,11 +6,11 @@ use mir.ValLaws.{toZ-ofZ}
 use Rattle.wire.specs.Signs.{placed}
 use Rattle.query.proofs.Instants.{asked-outside, asked-in}
 use Rattle.rows.specs.Rows.{rows}
-use Rattle.board.specs.Private.{Counted}
-use Rattle.board.proofs.Replying.{count-outside, count-bad, count-told}
+use Rattle.classes.specs.Reading.{Counted}
+use Rattle.classes.proofs.Replying.{count-outside, count-bad, count-told}
 use borrow.Author.Needs.{needs}
-use Rattle.board.proofs.counting.count_answer.Statement.{statement}
-use Rattle.board.proofs.counting.count_answer.Tie as tie
+use Rattle.classes.proofs.counting.count_answer.Statement.{statement}
+use Rattle.classes.proofs.counting.count_answer.Tie as tie
 
 asked-at-requires : tie.Need-asked-at-requires
 asked-at-requires c κs = tt

@@ -2,8 +2,8 @@
 ghost use mathlib.Core.Path.{_≡_};
 ghost use mathlib.Core.Option.{some};
 ghost use Rattle.rows.specs.Rows.{Here};
-ghost use Rattle.board.specs.Classes.{classOf, classNumber, classReply};
-ghost use Rattle.board.specs.Private.{markOf, classIn, firstOf, Classes};
+ghost use Rattle.classes.specs.Classes.{classOf, classNumber, classReply};
+ghost use Rattle.classes.specs.Reading.{markOf, classIn, firstOf, Classes};
 use crate::BAD_ROW;
 use crate::Class;
 use crate::ClassReply;

@@ -11,10 +11,10 @@ use Rattle.wire.specs.Signs.{placed}
 use Rattle.records.specs.Book.{inside, instants, trading}
 use Rattle.spans.specs.Spans.{Mark, phase, unknown, Span, look}
 use Rattle.rows.specs.Rows.{Seen, Row, segments, rows, rowRefusal, rowsRefusal}
-use Rattle.board.specs.declared.Class.{Class}
-use Rattle.board.specs.declared.Class.the-variants.{Trading, NotTrading, NotKnown, NotShown}
-use Rattle.board.specs.declared.ClassReply.{ClassReply}
-use Rattle.board.specs.declared.CountReply.{CountReply}
+use Rattle.classes.specs.declared.Class.{Class}
+use Rattle.classes.specs.declared.Class.the-variants.{Trading, NotTrading, NotKnown, NotShown}
+use Rattle.classes.specs.declared.ClassReply.{ClassReply}
+use Rattle.classes.specs.declared.CountReply.{CountReply}
 
 -- what the first segment that holds the instant shows
 abbrev pub shownAt : List (Span Seen) → ℕ → Option Mark

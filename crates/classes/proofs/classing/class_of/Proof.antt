@@ -1,8 +1,8 @@
 use mathlib.Core.Path.{sym, _∙_}
-use Rattle.board.proofs.Shown.{class-phase}
+use Rattle.classes.proofs.Shown.{class-phase}
 use borrow.Author.Needs.{needs}
-use Rattle.board.proofs.classing.class_of.Statement.{statement}
-use Rattle.board.proofs.classing.class_of.Tie as tie
+use Rattle.classes.proofs.classing.class_of.Statement.{statement}
+use Rattle.classes.proofs.classing.class_of.Tie as tie
 
 enum-known-shows : tie.Need-enum-known-shows
 enum-known-shows c = search needs

@@ -1,9 +1,9 @@
 use native.Mathlib.Omega.{arith}
 use lib.ListN.{length}
 use Rattle.rows.proofs.Laws.{here-rows}
-use Rattle.board.proofs.Sums.{Summing, leftOf, sum-start, another, sum-few, sum-less, sum-on, sum-end}
-use Rattle.board.proofs.counting.count_rows.Statement.{statement}
-use Rattle.board.proofs.counting.count_rows.Tie as tie
+use Rattle.classes.proofs.Sums.{Summing, leftOf, sum-start, another, sum-few, sum-less, sum-on, sum-end}
+use Rattle.classes.proofs.counting.count_rows.Statement.{statement}
+use Rattle.classes.proofs.counting.count_rows.Tie as tie
 
 abbrev Inv-loop : tie.InvT-loop
 Inv-loop rows t c₀ sum₀ c sum = Summing rows t c sum

@@ -1,6 +1,6 @@
-use Rattle.board.proofs.Shown.{class-early, class-late, class-held}
-use Rattle.board.proofs.classing.class_in.Statement.{statement}
-use Rattle.board.proofs.classing.class_in.Tie as tie
+use Rattle.classes.proofs.Shown.{class-early, class-late, class-held}
+use Rattle.classes.proofs.classing.class_in.Statement.{statement}
+use Rattle.classes.proofs.classing.class_in.Tie as tie
 
 returns : tie.Need-returns
 returns c =

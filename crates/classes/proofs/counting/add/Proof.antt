@@ -1,8 +1,8 @@
 use mathlib.Core.Path.{refl}
 use native.Mathlib.Omega.{arith}
 use borrow.Author.Needs.{needs}
-use Rattle.board.proofs.counting.add.Statement.{statement}
-use Rattle.board.proofs.counting.add.Tie as tie
+use Rattle.classes.proofs.counting.add.Statement.{statement}
+use Rattle.classes.proofs.counting.add.Tie as tie
 
 add-more : tie.Need-add-more
 add-more c = search needs
