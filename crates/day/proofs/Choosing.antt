@@ -3,7 +3,7 @@ use mathlib.Core.Path.{_≡_, refl, sym, ap, _∙_}
 use mathlib.Core.Bool.{Bool, true, false, not, cond, _&&_}
 use mathlib.Core.List.{List, map}
 use mathlib.Core.Option.{Option, none, some}
-use Prim.Native.Nat.{ℕ, _+_, _/_, _%_, _≤_, _<_}
+use Prim.Native.Nat.{ℕ, _+_, _≤_, _<_}
 use native.Mathlib.Numerals.{add-one}
 use native.Mathlib.Omega.{arith}
 use borrow.Author.Tests.{lt-ltb, le-ltb, le-leb, lt-leb, eq-eqb, ne-eqb, not-true, not-false}
@@ -19,7 +19,7 @@ use Rattle.day.specs.Meaning.{Stands, ruled}
 use Rattle.day.specs.declared.Governed.{Governed}
 use Rattle.day.specs.declared.Governed.the-variants.{Nothing, By}
 
--- ---- precedence and weekdays
+-- ---- precedence
 
 pub weekly : {k : ℕ} → k ≡ 0 → 10 ≡ precedence k
 weekly e = rw e
@@ -29,21 +29,6 @@ announced e = rw e
 
 pub special : {k : ℕ} → (k ≡ 0 → ⊥) → (k ≡ 3 → ⊥) → 30 ≡ precedence k
 special a b = simp (ne-eqb _ 0 a, ne-eqb _ 3 b)
-
-pub marked-on : (mask n : ℕ) {k : ℕ} → k ≡ n → marked mask n ≡ marked mask k
-marked-on mask n e = ap (marked mask) (sym e)
-
-pub first-mark : (mask : ℕ) → eqb (mask % 2) 1 ≡ marked mask 0
-first-mark mask = let e : mask / 1 ≡ mask = omega arith in rw e
-
-midweek : {w : ℕ} → (w ≡ 0 → ⊥) → (w ≡ 1 → ⊥) → (w ≡ 2 → ⊥) → 3 ≤ w
-midweek a b c = omega arith
-
-weekend : {w : ℕ} → 3 ≤ w → (w ≡ 3 → ⊥) → (w ≡ 4 → ⊥) → (w ≡ 5 → ⊥) → 6 ≤ w
-weekend l a b c = omega arith
-
-pub sunday : {w : ℕ} → w ≤ 6 → (w ≡ 0 → ⊥) → (w ≡ 1 → ⊥) → (w ≡ 2 → ⊥) → (w ≡ 3 → ⊥) → (w ≡ 4 → ⊥) → (w ≡ 5 → ⊥) → w ≡ 6
-sunday h n0 n1 n2 n3 n4 n5 = let l = weekend (midweek n0 n1 n2) n3 n4 n5 in omega (arith, h, l)
 
 -- ---- whether a rule applies
 

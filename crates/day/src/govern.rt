@@ -30,15 +30,7 @@ fn marked(mask: u8, weekday: u8) -> bool
     requires { ⌜ (mask ≤ 127) × (weekday ≤ 6) ⌝ }
     ensures { λ r. ⌜ r ≡ Governing·marked mask weekday ⌝ }
 {
-    match weekday {
-        0 => mask % 2 == 1,
-        1 => mask / 2 % 2 == 1,
-        2 => mask / 4 % 2 == 1,
-        3 => mask / 8 % 2 == 1,
-        4 => mask / 16 % 2 == 1,
-        5 => mask / 32 % 2 == 1,
-        _ => mask / 64 % 2 == 1,
-    }
+    (mask >> weekday) % 2 == 1
 }
 
 fn applies(book: &[u8], at: usize, d: Day) -> bool
