@@ -1,4 +1,5 @@
 pub mod Chain
+pub mod Amended
 pub mod Readback
 pub mod Used
 pub mod Several

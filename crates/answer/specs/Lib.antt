@@ -2,3 +2,4 @@ pub mod Forms
 pub mod Meaning
 pub mod Fitting
 pub mod Used
+pub mod Amending

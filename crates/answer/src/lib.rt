@@ -1,6 +1,8 @@
 // Answers, written into lent room. Instants and uncertainties are written as document 01's signed numbers.
 mod put;
 
+pub use put::amend_phase;
+pub use put::put_alike;
 pub use put::put_day;
 pub use put::put_event;
 pub use put::put_gap;

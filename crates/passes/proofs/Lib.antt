@@ -1,4 +1,4 @@
-mod Holes
+mod Records
 mod Passes
 mod Heads
 mod Steps

@@ -1,21 +1,23 @@
-// The second pass over a walk: it takes the same steps as the first, joins alike, and writes. The record of the last span is held back, and
-// its place kept free, until no further span joins it.
-ghost use Prim.Native.Nat.{_+_, _≤_, _<_};
+// The second pass over a walk: it takes the same steps as the first, joins alike, and writes. A span that joins the one before amends its record.
+ghost use Prim.Native.Nat.{_+_, _<_};
 ghost use mathlib.Core.Path.{_≡_};
 ghost use mathlib.Core.Bool.{cond};
 ghost use lib.ListN.{length};
-ghost use Rattle.wire.specs.Fields.{Inside, Put};
+ghost use Rattle.wire.specs.Fields.{Inside, Put, wrote};
 ghost use Rattle.zone.specs.Zone.{zoneOf};
 ghost use Rattle.zone.specs.Answers.{Valid};
 ghost use Rattle.venue.specs.Filled.{Ready};
 ghost use Rattle.walk.specs.Walking.{Fits};
-ghost use Rattle.answer.specs.Forms.{encodeAll};
+ghost use Rattle.answer.specs.Forms.{phase, encode, encodeAll};
+ghost use Rattle.answer.specs.Meaning.{phaseOf};
 ghost use Rattle.joining.specs.Amending.{joinedHead};
 ghost use Rattle.joining.specs.Walked.{walkForms};
-ghost use Rattle.passes.specs.Private.{Room, closed, openOf, pieceHead};
+ghost use Rattle.passes.specs.Private.{Recorded, pieceHead};
 use answer::EVENT_BYTES;
 use answer::PHASE_BYTES;
 use answer::Phase;
+use answer::amend_phase;
+use answer::put_alike;
 use answer::put_phase;
 use day::Segment;
 use joining::joined;
@@ -76,43 +78,22 @@ fn head_of(book: &[u8], first: u32, ats: &[u64], offsets: &[u32], q: Piece, even
     phase_of(book, g, widest(before, behind), from, to, events)
 }
 
-// Writes the record that is held back, if there is one: it is complete.
-fn close(out: &mut [u8], begun: bool, stand: usize, head: Phase)
-    requires { ⌜ Room (openOf begun stand head) (now out) ⌝ }
-    ensures { λ r. ⌜ now (out .exit) ≡ closed (now (out .entry)) (openOf begun stand head) ⌝ }
+// Where a span's events go: behind those of the record that it joins, or behind a record of its own.
+fn events_place(joining: bool, place: usize) -> usize
+    requires { ⌜ place + cond joining 0 105 < 18446744073709551616 ⌝ }
+    ensures { λ r. ⌜ r ≡ cond joining place (place + 105) ⌝ }
 {
-    if begun {
-        put_phase(out, stand, head);
-    }
+    if joining { place } else { place + PHASE_BYTES }
 }
 
-// Where a span's events go: behind those of the record held back, which it joins, or behind a record of its own.
-fn events_place(
-    out: &mut [u8],
-    begun: bool,
-    stand: usize,
-    head: Phase,
-    joining: bool,
-    place: usize,
-) -> usize
-    requires { ⌜ Room (openOf begun stand head) (now out) × (place + cond joining 0 105 ≤ length (now out)) ⌝ }
-    ensures { λ r. ⌜ (r ≡ cond joining place (place + 105)) × (now (out .exit) ≡ cond joining (now (out .entry)) (closed (now (out .entry)) (openOf begun stand head))) ⌝ }
-{
-    if joining {
-        return place;
-    }
-    close(out, begun, stand, head);
-    place + PHASE_BYTES
-}
-
-// Where the record that is held back behind a span will stand.
+// Where a span's record stands: where that of the span that it joins does, or behind all others.
 fn record_place(joining: bool, stand: usize, place: usize) -> usize
     ensures { λ r. ⌜ r ≡ cond joining stand place ⌝ }
 {
     if joining { stand } else { place }
 }
 
-// What the record that is held back behind a span says.
+// What the record says behind a span: what joined spans say, or the span's own.
 fn told(joining: bool, head: Phase, new: Phase) -> Phase
     requires { ⌜ cond joining (head .events) 0 + new .events < 4294967296 ⌝ }
     ensures { λ r. ⌜ r ≡ cond joining (joinedHead head new) new ⌝ }
@@ -121,6 +102,22 @@ fn told(joining: bool, head: Phase, new: Phase) -> Phase
         return joined(head, new);
     }
     new
+}
+
+// Writes the record: amended where a span has joined it, else as a whole.
+fn put_record(out: &mut [u8], stand: usize, joining: bool, calm: bool, head: Phase)
+    requires { ⌜ Recorded (now out) stand joining calm head ⌝ }
+    ensures { λ r. ⌜ now (out .exit) ≡ wrote (now (out .entry)) stand (encode (phase (phaseOf head))) ⌝ }
+{
+    if joining {
+        amend_phase(out, stand, head);
+        return;
+    }
+    if calm {
+        put_alike(out, stand, head);
+        return;
+    }
+    put_phase(out, stand, head);
 }
 
 // No record yet.
@@ -199,12 +196,13 @@ pub fn put_walk(
                     point_phase(book, rule, q.point),
                     rule_evidence(book, rule),
                 );
-                let trail = events_place(out, begun, stand, head, joining, place);
+                let trail = events_place(joining, place);
                 let done = put_events(book, first, ats, offsets, events, start, end, out, trail);
                 let count = (done - trail) / EVENT_BYTES;
                 let new = head_of(book, first, ats, offsets, q, count as u32);
                 stand = record_place(joining, stand, place);
                 head = told(joining, head, new);
+                put_record(out, stand, joining, q.calm, head);
                 begun = true;
                 place = done;
                 w = behind(q);
@@ -227,6 +225,5 @@ pub fn put_walk(
             },
         }
     }
-    close(out, begun, stand, head);
     place
 }

@@ -7,7 +7,7 @@ use native.Mathlib.Numerals.{add-one}
 use native.Mathlib.Omega.{arith}
 use lib.Arith.{mod-mul}
 use lib.ListN.{length, getD, take, drop, set, length-append, take-append-drop, length-set, List·getD-append}
-use lib.Seq.{drop-cons, sets, sets-eq, length-sets, getD-append-add, getD-take, getD-drop, length-take-le}
+use lib.Seq.{drop-cons, sets, sets-eq, length-sets, getD-append-add, getD-take, getD-drop, length-take-le, take-append-le, take-take, take-at, drop-at}
 use Rattle.wire.specs.Fields.{field, bytes, wrote, Inside, Put, Field, laid, writes}
 use Rattle.wire.proofs.Reading.{field-same}
 
@@ -109,6 +109,39 @@ wrote-wrote l at n vs ws q p =
     ∙ ap (λ (m : ℕ). sets (sets l at vs) m ws) q
     ∙ sets-append vs ws l at
     ∙ sets-eq (vs ++ ws) l at j
+
+-- a write right before a write is one write of both
+pub wrote-in-front : (l : List ℕ) (at n : ℕ) (vs ws : List ℕ) → n ≡ at + length vs → Inside n (length ws) l → wrote (wrote l n ws) at vs ≡ wrote l at (vs ++ ws)
+unfolding wrote
+wrote-in-front l at n vs ws q p =
+    let rest = drop (n + length ws) l in
+    let long : length (take n l) ≡ n = length-take-le n l (omega arith) in
+    let front : take at (take n l ++ (ws ++ rest)) ≡ take at l = take-append-le at (take n l) (ws ++ rest) (omega arith) ∙ take-take at n l (omega arith) in
+    let end : n + length ws ≡ at + length (vs ++ ws) = omega (arith, length-append vs ws) in
+    rw (append-assoc (take n l) ws rest, front, ← q, drop-at (take n l) (ws ++ rest) n long) (simp append-assoc (ap (λ (i : ℕ). take at l ++ (vs ++ (ws ++ drop i l))) end))
+
+-- as many bytes in place of some that stand between others
+over : (a y b v : List ℕ) (n : ℕ) → length a ≡ n → length v ≡ length y → wrote (a ++ (y ++ b)) n v ≡ a ++ (v ++ b)
+unfolding wrote
+over a y b v n h e =
+    let long : length (a ++ y) ≡ n + length v = omega (arith, length-append a y) in
+    rw (take-at a (y ++ b) n h, ← (append-assoc a y b), drop-at (a ++ y) b (n + length v) long) (append-assoc a v b)
+
+-- part of what was written, written over by as many bytes
+pub wrote-over : (l : List ℕ) (at n : ℕ) (x y z v : List ℕ) → n ≡ at + length x → length v ≡ length y → Inside at (length (x ++ (y ++ z))) l
+    → wrote (wrote l at (x ++ (y ++ z))) n v ≡ wrote l at (x ++ (v ++ z))
+unfolding wrote
+wrote-over l at n x y z v q e p =
+    let m = length (x ++ (y ++ z)) in
+    let same : length (x ++ (v ++ z)) ≡ m = simp length-append (omega arith) in
+    let long : length (take at l ++ x) ≡ n = omega (arith, length-append (take at l) x, length-take-le at l (omega arith)) in
+    ap (λ (k : List ℕ). wrote k n v) (parts (take at l) y (drop (at + m) l))
+    ∙ over (take at l ++ x) y (z ++ drop (at + m) l) v n long e
+    ∙ sym (parts (take at l) v (drop (at + m) l))
+    ∙ ap (λ (k : ℕ). take at l ++ (x ++ (v ++ z)) ++ drop (at + k) l) (sym same)
+  where
+    parts : (a w b : List ℕ) → a ++ (x ++ (w ++ z)) ++ b ≡ (a ++ x) ++ (w ++ (z ++ b))
+    parts a w b = simp append-assoc
 
 -- one number, then the others behind it
 pub wrote-one : (l : List ℕ) (at v : ℕ) (vs : List ℕ) → Inside at (1 + length vs) l → wrote l at (v ∷ vs) ≡ wrote (set l at v) (at + 1) vs

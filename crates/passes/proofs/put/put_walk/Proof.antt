@@ -1,341 +1,245 @@
-use borrow.Author.Needs.{needs}
+use Rattle.passes.proofs.Passes.{Writing}
+use Rattle.passes.proofs.Steps.{bytesLeft, Coming, Taken, taken, turn-written, its-count, its-room, its-length, its-record, written, written-on, begun-writing, walk-put}
 use Rattle.joining.proofs.Steps.{z, left, fewer, come, shown, gone, turned, turn-fewer, found-few, stands-on, fewer-on}
-use Rattle.joining.proofs.Sizes.{bytesOf}
-use Rattle.joining.specs.Joining.{phases}
-use Rattle.passes.proofs.Steps.{turn-written, last-held, joins-held, held-next, held-count, its-place, its-count, its-room, its-length, written, written-on, begun-writing, walk-put}
-use Rattle.passes.proofs.Passes.{Writing, write-hole}
-use Rattle.passes.specs.Private.{openOf}
-use Rattle.walk.proofs.Looking.{stands-held}
-use Rattle.walk.proofs.Keeping.{keeps-blank}
-use Rattle.walk.specs.Keeping.{Keeps}
-use Rattle.walk.specs.Walking.{Stands}
-use Rattle.venue.proofs.Laws.{good-rule}
-use Rattle.spans.specs.Spans.{joined}
 use Rattle.answer.specs.declared.Phase.{Phase}
-use native.Mathlib.Omega.{arith}
+use Rattle.walk.proofs.Keeping.{keeps-blank}
+use Rattle.walk.proofs.Looking.{stands-held}
+use Rattle.walk.specs.Walking.{Stands}
+use Rattle.walk.specs.Keeping.{Keeps}
+use Rattle.venue.proofs.Laws.{good-rule}
 use lib.ListN.{length}
-use Prim.Native.Nat.{_+_}
 use mathlib.Core.Path.{ap, _∙_}
+use Prim.Native.Nat.{_+_}
+use native.Mathlib.Omega.{arith}
+use borrow.Author.Needs.{needs}
 use Rattle.passes.proofs.put.put_walk.Statement.{statement}
 use Rattle.passes.proofs.put.put_walk.Tie as tie
 
 abbrev Inv-pieces : tie.InvT-pieces
 Inv-pieces book first ats offsets rules events hi out₀ at kept₀ edges₀ w₀ head₀ begun₀ stand₀ place₀ out kept edges w head begun stand place =
     Stands book (z book first ats offsets rules events (hi .0)) w edges × Writing out₀ at
-    (bytesOf (joined phases (left book first ats offsets rules events (hi .0) w₀))) out (openOf begun stand head) place
+    (bytesLeft book first ats offsets rules events (hi .0) w₀) out begun stand head place
     (left book first ats offsets rules events (hi .0) w) × Keeps book rules kept
 
 abbrev μ-pieces : tie.MeasureT-pieces
 μ-pieces book first ats offsets rules events hi out₀ at kept₀ edges₀ w₀ head₀ begun₀ stand₀ place₀ out kept edges w head begun stand place = length (left book first ats offsets rules events (hi .0) w) + w .turns
 
-sub-begin : tie.Need-sub-begin Inv-pieces μ-pieces
-sub-begin c = omega arith
+-- a need, or a place, at this invariant and measure
+abbrev At : (tie.InvT-pieces → tie.MeasureT-pieces → Type 0) → Type 0
+At it = it Inv-pieces μ-pieces
 
-begin-requires : tie.Need-begin-requires Inv-pieces μ-pieces
+-- a piece comes
+comes-at : (c : At tie.After-q)
+    → let at-pieces = c .before .before .before .before in
+    let args = at-pieces .before .before .before .before .before .before .before .before .before .before .before .args in
+    Coming (args .book .now) (args .first) (args .ats .now) (args .offsets .now) (args .rules .now) (args .events .now) (args .hi .0)
+    (at-pieces .pieces .w) (c .q .given .0 .0) (at-pieces .pieces .edges)
+comes-at c =
+    let at-pieces = c .before .before .before .before in
+    let at-start = at-pieces .before .before .before .before .before .before .before .before .before .before .before in
+    let args = at-start .args in
+    come (args .book .now) (args .first) (args .ats .now) (args .offsets .now) (args .rules .now) (args .events .now) (args .hi .0)
+    (at-start .pre .0) _ _ _ (at-pieces .pieces .inv .0) (c .before .before .here .ensures) (c .q .given .1)
+
+-- and whether it joins is told
+taken-at : (c : At tie.After-joins)
+    → let at-q = c .before .before .before .before .before .before .before .before .before .before in
+    let at-pieces = at-q .before .before .before .before in
+    let args = at-pieces .before .before .before .before .before .before .before .before .before .before .before .args in
+    Taken (args .book .now) (args .first) (args .ats .now) (args .offsets .now) (args .rules .now) (args .events .now) (args .hi .0) (args .out .now)
+    (args .at) (bytesLeft (args .book .now) (args .first) (args .ats .now) (args .offsets .now) (args .rules .now) (args .events .now) (args .hi .0)
+    (at-pieces .before .before .begin .result)) (at-pieces .pieces .out) (at-pieces .pieces .stand) (at-pieces .pieces .head)
+    (at-pieces .pieces .place) (at-q .q .given .0 .0) (c .joins .result)
+taken-at c =
+    let at-last-of = c .before .before .before in
+    let at-q = at-last-of .before .before .before .before .before .before .before in
+    let at-pieces = at-q .before .before .before .before in
+    let at-start = at-pieces .before .before .before .before .before .before .before .before .before .before .before in
+    let args = at-start .args in
+    taken (args .book .now) (args .first) (args .ats .now) (args .offsets .now) (args .rules .now) (args .events .now) (args .hi .0)
+    (at-start .pre .0) (comes-at at-q) (c .before .before .point-phase .ensures .0) (c .before .rule-evidence .ensures) (at-pieces .pieces .inv .1)
+    (at-last-of .last-of .ensures) (c .joins .ensures)
+
+begin-requires : At tie.Need-begin-requires
 begin-requires c κs =
     let at-start = c .before .before .before .before .before .before .before .before in
-    ((at-start .pre) .0 .zone, (at-start .pre) .0 .rules-listed, keeps-blank _)
+    (at-start .pre .0 .zone, at-start .pre .0 .rules-listed, keeps-blank _)
 
-blank-requires : tie.Need-blank-requires Inv-pieces μ-pieces
-blank-requires c κs = tt
-
-pieces-holds : tie.Need-pieces-holds Inv-pieces μ-pieces
+pieces-holds : At tie.Need-pieces-holds
 pieces-holds c =
     let at-begin = c .before in
     let at-start = at-begin .before .before .before .before .before .before .before .before .before in
     let args = at-start .args in (
-      (at-begin .begin .ensures .0 .stands),
-      begun-writing (args .book .now) (args .first) (args .ats .now) (args .offsets .now) (args .rules .now)
-          (args .events .now) (args .hi .0) (at-start .pre .0) (at-begin .begin .ensures .0) (at-start .pre .1),
-      (at-begin .begin .ensures .1),
+      at-begin .begin .ensures .0 .stands,
+      begun-writing (args .book .now) (args .first) (args .ats .now) (args .offsets .now) (args .rules .now) (args .events .now) (args .hi .0)
+          (at-start .pre .0) (at-begin .begin .ensures .0) _ (at-start .pre .1),
+      at-begin .begin .ensures .1,
     )
 
-here-requires : tie.Need-here-requires Inv-pieces μ-pieces
+here-requires : At tie.Need-here-requires
 here-requires c κs =
     let at-pieces = c .before in
     stands-held (at-pieces .pieces .inv .0)
 
-enum-known-q : tie.Need-enum-known-q Inv-pieces μ-pieces
-enum-known-q c = search needs
-
-cast-rule : tie.Need-cast-rule Inv-pieces μ-pieces
-cast-rule c = search needs
-
-last-of-requires : tie.Need-last-of-requires Inv-pieces μ-pieces
-last-of-requires c κs = tt
-
-point-phase-requires : tie.Need-point-phase-requires Inv-pieces μ-pieces
+point-phase-requires : At tie.Need-point-phase-requires
 point-phase-requires c κs =
     let at-q = c .before .before .before .before .before .before .before in
-    let at-here = at-q .before .before in
-    let at-pieces = at-here .before .before in
-    let at-start = at-pieces .before .before .before .before .before .before .before .before .before .before .before in
-    let args = at-start .args in
-    let comes = come (args .book .now) (args .first) (args .ats .now) (args .offsets .now) (args .rules .now) (args .events .now) (args .hi .0)
-    (at-start .pre .0) _ _ _ (at-pieces .pieces .inv .0) (at-here .here .ensures) (at-q .q .given .1) in
-    (comes .fits .listed, comes .fits .point)
+    let fits = comes-at at-q .fits in (fits .listed, fits .point)
 
-rule-evidence-requires : tie.Need-rule-evidence-requires Inv-pieces μ-pieces
+rule-evidence-requires : At tie.Need-rule-evidence-requires
 rule-evidence-requires c κs =
     let at-q = c .before .before .before .before .before .before .before .before in
-    let at-here = at-q .before .before in
-    let at-pieces = at-here .before .before in
-    let at-start = at-pieces .before .before .before .before .before .before .before .before .before .before .before in
-    let args = at-start .args in
-    let comes = come (args .book .now) (args .first) (args .ats .now) (args .offsets .now) (args .rules .now) (args .events .now) (args .hi .0)
-    (at-start .pre .0) _ _ _ (at-pieces .pieces .inv .0) (at-here .here .ensures) (at-q .q .given .1) in
-    comes .fits .listed
+    comes-at at-q .fits .listed
 
-joins-requires : tie.Need-joins-requires Inv-pieces μ-pieces
-joins-requires c κs = tt
-
-events-place-requires : tie.Need-events-place-requires Inv-pieces μ-pieces
+events-place-requires : At tie.Need-events-place-requires
 events-place-requires c κs =
-    let at-joins = c .before in
-    let at-rule-evidence = at-joins .before in
-    let at-point-phase = at-rule-evidence .before in
-    let at-last-of = at-point-phase .before in
-    let at-q = at-last-of .before .before .before .before .before .before .before in
-    let at-here = at-q .before .before in
-    let at-pieces = at-here .before .before in
-    let at-start = at-pieces .before .before .before .before .before .before .before .before .before .before .before in
-    let args = at-start .args in
-    let comes = come (args .book .now) (args .first) (args .ats .now) (args .offsets .now) (args .rules .now) (args .events .now) (args .hi .0)
-    (at-start .pre .0) _ _ _ (at-pieces .pieces .inv .0) (at-here .here .ensures) (at-q .q .given .1) in
-    its-place (args .book .now) (args .first) (args .ats .now) (args .offsets .now) (args .rules .now) (args .events .now) (args .hi .0)
-    (at-start .pre .0) comes (at-point-phase .point-phase .ensures .0) (at-rule-evidence .rule-evidence .ensures) (at-pieces .pieces .inv .1)
-    ((at-last-of .last-of .ensures) ∙ last-held (at-pieces .pieces .begun) (at-pieces .pieces .stand) (at-pieces .pieces .head))
-    (at-joins .joins .ensures)
+    let at-joins = c in
+    let at-start = at-joins .before .before .before .before .before .before .before .before .before .before .before .before .before .before .before .before .before .before .before .before .before .before .before .before .before in
+    omega (arith, taken-at at-joins .goes .begin, at-start .good)
 
-put-events-requires : tie.Need-put-events-requires Inv-pieces μ-pieces
+put-events-requires : At tie.Need-put-events-requires
 put-events-requires c κs =
-    let at-events-place = c .before .before .before in
-    let at-joins = at-events-place .before .before in
-    let at-rule-evidence = at-joins .before in
-    let at-point-phase = at-rule-evidence .before in
-    let at-last-of = at-point-phase .before in
-    let at-q = at-last-of .before .before .before .before .before .before .before in
-    let at-here = at-q .before .before in
-    let at-pieces = at-here .before .before in
-    let at-start = at-pieces .before .before .before .before .before .before .before .before .before .before .before in
-    let args = at-start .args in
-    let comes = come (args .book .now) (args .first) (args .ats .now) (args .offsets .now) (args .rules .now) (args .events .now) (args .hi .0)
-    (at-start .pre .0) _ _ _ (at-pieces .pieces .inv .0) (at-here .here .ensures) (at-q .q .given .1) in (
-      (at-start .pre .0 .zone),
-      (at-start .pre .0 .events-listed),
-      (at-start .pre .0 .few),
-      its-room (args .book .now) (args .first) (args .ats .now)
-          (args .offsets .now) (args .rules .now) (args .events .now) (args .hi .0) (at-start .pre .0) comes (at-point-phase .point-phase .ensures .0)
-          (at-rule-evidence .rule-evidence .ensures) (at-pieces .pieces .inv .1)
-          ((at-last-of .last-of .ensures) ∙ last-held (at-pieces .pieces .begun) (at-pieces .pieces .stand) (at-pieces .pieces .head))
-          (at-joins .joins .ensures) (at-events-place .events-place .ensures),
-    )
+    let at-events-place = c .before in
+    let at-joins = at-events-place .before in
+    let ready = at-joins .before .before .before .before .before .before .before .before .before .before .before .before .before .before .before .before .before .before .before .before .before .before .before .before .before .pre .0 in
+    (ready .zone, ready .events-listed, ready .few, its-room (taken-at at-joins) (at-events-place .events-place .ensures))
 
-sub-count : tie.Need-sub-count Inv-pieces μ-pieces
+sub-count : At tie.Need-sub-count
 sub-count c =
     let at-put-events = c .before .before in
-    omega (arith, (at-put-events .put-events .ensures) .behind)
+    omega (arith, at-put-events .put-events .ensures .behind)
 
-cast-head-of : tie.Need-cast-head-of Inv-pieces μ-pieces
+cast-head-of : At tie.Need-cast-head-of
 cast-head-of c =
     let at-put-events = c .before .before in
-    let at-q = at-put-events .before .before .before .before .before .before .before .before .before .before .before .before .before .before .before .before in
-    let at-here = at-q .before .before in
-    let at-pieces = at-here .before .before in
-    let at-start = at-pieces .before .before .before .before .before .before .before .before .before .before .before in
+    let at-q = at-put-events .before .before .before .before .before .before .before .before .before .before .before .before .before in
+    let at-start = at-q .before .before .before .before .before .before .before .before .before .before .before .before .before .before .before in
     let args = at-start .args in
-    let comes = come (args .book .now) (args .first) (args .ats .now) (args .offsets .now) (args .rules .now) (args .events .now) (args .hi .0)
-    (at-start .pre .0) _ _ _ (at-pieces .pieces .inv .0) (at-here .here .ensures) (at-q .q .given .1) in
     omega (
       arith,
       its-length (at-put-events .put-events .ensures),
       found-few (args .book .now) (args .first) (args .ats .now) (args .offsets .now)
-          (args .rules .now) (args .events .now) (args .hi .0) (at-start .pre .0) _ (comes .fits),
+          (args .rules .now) (args .events .now) (args .hi .0) (at-start .pre .0) _ (comes-at at-q .fits),
     )
 
-head-of-requires : tie.Need-head-of-requires Inv-pieces μ-pieces
+head-of-requires : At tie.Need-head-of-requires
 head-of-requires c κs =
-    let at-q = c .before .before .before .before .before .before .before .before .before .before .before .before .before .before .before .before .before .before in
-    let at-here = at-q .before .before in
-    let at-pieces = at-here .before .before in
-    let at-start = at-pieces .before .before .before .before .before .before .before .before .before .before .before in
-    let args = at-start .args in
-    let comes = come (args .book .now) (args .first) (args .ats .now) (args .offsets .now) (args .rules .now) (args .events .now) (args .hi .0)
-    (at-start .pre .0) _ _ _ (at-pieces .pieces .inv .0) (at-here .here .ensures) (at-q .q .given .1) in
-    ((at-start .pre .0 .zone), comes .fits)
+    let at-q = c .before .before .before .before .before .before .before .before .before .before .before .before .before .before .before in
+    let at-start = at-q .before .before .before .before .before .before .before .before .before .before .before .before .before .before .before in
+    (at-start .pre .0 .zone, comes-at at-q .fits)
 
-record-place-requires : tie.Need-record-place-requires Inv-pieces μ-pieces
-record-place-requires c κs = tt
-
-told-requires : tie.Need-told-requires Inv-pieces μ-pieces
+told-requires : At tie.Need-told-requires
 told-requires c κs =
     let at-head-of = c .before in
     let at-put-events = at-head-of .before .before .before in
-    let at-joins = at-put-events .before .before .before .before .before .before in
-    let at-rule-evidence = at-joins .before in
-    let at-point-phase = at-rule-evidence .before in
-    let at-last-of = at-point-phase .before in
-    let at-q = at-last-of .before .before .before .before .before .before .before in
-    let at-here = at-q .before .before in
-    let at-pieces = at-here .before .before in
-    let at-start = at-pieces .before .before .before .before .before .before .before .before .before .before .before in
-    let args = at-start .args in
-    let comes = come (args .book .now) (args .first) (args .ats .now) (args .offsets .now) (args .rules .now) (args .events .now) (args .hi .0)
-    (at-start .pre .0) _ _ _ (at-pieces .pieces .inv .0) (at-here .here .ensures) (at-q .q .given .1) in
-    held-count (at-pieces .pieces .begun) _ (at-pieces .pieces .stand) (at-pieces .pieces .head) _ (its-count (args .book .now) (args .first)
-    (args .ats .now) (args .offsets .now) (args .rules .now) (args .events .now) (args .hi .0) (at-start .pre .0) comes
-    (at-point-phase .point-phase .ensures .0) (at-rule-evidence .rule-evidence .ensures) (at-pieces .pieces .inv .1)
-    ((at-last-of .last-of .ensures) ∙ last-held (at-pieces .pieces .begun) (at-pieces .pieces .stand) (at-pieces .pieces .head))
-    (at-joins .joins .ensures) (ap (λ (h : Phase). h .events) (at-head-of .head-of .ensures) ∙ its-length (at-put-events .put-events .ensures)))
-    (joins-held (at-pieces .pieces .begun) (at-pieces .pieces .head) _ _ _ (at-last-of .last-of .ensures) (at-joins .joins .ensures))
+    let at-joins = at-put-events .before .before .before in
+    its-count (taken-at at-joins) (ap (λ (h : Phase). h .events) (at-head-of .head-of .ensures) ∙ its-length (at-put-events .put-events .ensures))
 
-behind-requires : tie.Need-behind-requires Inv-pieces μ-pieces
-behind-requires c κs =
-    let at-q = c .before .before .before .before .before .before .before .before .before .before .before .before .before .before .before .before .before .before .before .before .before in
-    let at-here = at-q .before .before in
-    let at-pieces = at-here .before .before in
-    let at-start = at-pieces .before .before .before .before .before .before .before .before .before .before .before in
-    let args = at-start .args in
-    let comes = come (args .book .now) (args .first) (args .ats .now) (args .offsets .now) (args .rules .now) (args .events .now) (args .hi .0)
-    (at-start .pre .0) _ _ _ (at-pieces .pieces .inv .0) (at-here .here .ensures) (at-q .q .given .1) in
-    omega (arith, comes .fits .point, good-rule (args .book .now) _ (comes .fits .listed) .few)
-
-pieces-less : tie.Need-pieces-less Inv-pieces μ-pieces
-pieces-less c =
-    let at-behind = c in
-    let at-rule-evidence = at-behind .before .before .before .before .before .before .before .before .before .before .before .before .before in
-    let at-point-phase = at-rule-evidence .before in
-    let at-q = at-point-phase .before .before .before .before .before .before .before .before in
-    let at-here = at-q .before .before in
-    let at-pieces = at-here .before .before in
-    let at-start = at-pieces .before .before .before .before .before .before .before .before .before .before .before in
-    let start-offsets = at-start .args .offsets .now in
-    let start-events = at-start .args .events .now in
-    let start-rules = at-start .args .rules .now in
-    let args = at-start .args in
-    let comes = come (args .book .now) (args .first) (args .ats .now) start-offsets start-rules start-events (args .hi .0) (at-start .pre .0) _ _ _
-    (at-pieces .pieces .inv .0) (at-here .here .ensures) (at-q .q .given .1) in
-    fewer-on (args .book .now) (args .first) (args .ats .now) start-offsets start-rules start-events (args .hi .0) (at-behind .behind .ensures) (fewer
-    (args .book .now) (args .first) (args .ats .now) start-offsets start-rules start-events (args .hi .0) (at-start .pre .0) comes
-    (at-point-phase .point-phase .ensures .0) (at-rule-evidence .rule-evidence .ensures))
-
-pieces-again : tie.Need-pieces-again Inv-pieces μ-pieces
-pieces-again c =
-    let at-behind = c in
-    let at-told = at-behind .before in
+put-record-requires : At tie.Need-put-record-requires
+put-record-requires c κs =
+    let at-told = c .before in
     let at-record-place = at-told .before in
     let at-head-of = at-record-place .before in
     let at-put-events = at-head-of .before .before .before in
-    let at-events-place = at-put-events .before .before .before .before in
-    let at-joins = at-events-place .before .before in
-    let at-rule-evidence = at-joins .before in
-    let at-point-phase = at-rule-evidence .before in
-    let at-last-of = at-point-phase .before in
-    let at-q = at-last-of .before .before .before .before .before .before .before in
-    let at-here = at-q .before .before in
-    let at-pieces = at-here .before .before in
-    let at-start = at-pieces .before .before .before .before .before .before .before .before .before .before .before in
-    let start-offsets = at-start .args .offsets .now in
-    let start-events = at-start .args .events .now in
-    let start-rules = at-start .args .rules .now in
+    let at-events-place = at-put-events .before .before in
+    let at-joins = at-events-place .before in
+    its-record (taken-at at-joins) (at-events-place .events-place .ensures) (at-put-events .put-events .ensures) (at-head-of .head-of .ensures)
+    (at-record-place .record-place .ensures) (at-told .told .ensures)
+
+behind-requires : At tie.Need-behind-requires
+behind-requires c κs =
+    let at-q = c .before .before .before .before .before .before .before .before .before .before .before .before .before .before .before .before .before .before .before .before .before .before in
+    let at-start = at-q .before .before .before .before .before .before .before .before .before .before .before .before .before .before .before in
     let args = at-start .args in
-    let comes = come (args .book .now) (args .first) (args .ats .now) start-offsets start-rules start-events (args .hi .0) (at-start .pre .0) _ _ _
-    (at-pieces .pieces .inv .0) (at-here .here .ensures) (at-q .q .given .1) in (
-      stands-on (args .book .now) (args .first) (args .ats .now) start-offsets start-rules start-events (args .hi .0) (at-behind .behind .ensures)
-          (comes .stands),
-      written-on (args .book .now) (args .first) (args .ats .now) start-offsets start-rules start-events (args .hi .0)
-          (at-behind .behind .ensures) (written (args .book .now) (args .first) (args .ats .now) start-offsets start-rules start-events (args .hi .0)
-          (at-start .pre .0) comes (at-point-phase .point-phase .ensures .0) (at-rule-evidence .rule-evidence .ensures) (at-pieces .pieces .inv .1)
-          ((at-last-of .last-of .ensures) ∙ last-held (at-pieces .pieces .begun) (at-pieces .pieces .stand) (at-pieces .pieces .head))
-          (at-joins .joins .ensures) (at-events-place .events-place .ensures) (at-put-events .put-events .ensures)
-          (its-length (at-put-events .put-events .ensures)) (at-head-of .head-of .ensures) (held-next (at-pieces .pieces .begun) _
-          (at-pieces .pieces .stand) (at-pieces .pieces .place) (at-pieces .pieces .head) _
-          (joins-held (at-pieces .pieces .begun) (at-pieces .pieces .head) _ _ _ (at-last-of .last-of .ensures) (at-joins .joins .ensures))
-          (at-record-place .record-place .ensures) (at-told .told .ensures))),
-      (at-pieces .pieces .inv .2),
+    let fits = comes-at at-q .fits in omega (arith, fits .point, good-rule (args .book .now) _ (fits .listed) .few)
+
+pieces-less : At tie.Need-pieces-less
+pieces-less c =
+    let at-behind = c in
+    let at-rule-evidence = at-behind .before .before .before .before .before .before .before .before .before .before .before .before .before .before in
+    let at-point-phase = at-rule-evidence .before in
+    let at-q = at-point-phase .before .before .before .before .before .before .before .before in
+    let at-start = at-q .before .before .before .before .before .before .before .before .before .before .before .before .before .before .before in
+    let args = at-start .args in
+    fewer-on (args .book .now) (args .first) (args .ats .now) (args .offsets .now) (args .rules .now) (args .events .now) (args .hi .0)
+    (at-behind .behind .ensures) (fewer (args .book .now) (args .first) (args .ats .now) (args .offsets .now) (args .rules .now) (args .events .now)
+    (args .hi .0) (at-start .pre .0) (comes-at at-q) (at-point-phase .point-phase .ensures .0) (at-rule-evidence .rule-evidence .ensures))
+
+pieces-again : At tie.Need-pieces-again
+pieces-again c =
+    let at-behind = c in
+    let at-put-record = at-behind .before .before .before in
+    let at-told = at-put-record .before .before in
+    let at-record-place = at-told .before in
+    let at-head-of = at-record-place .before in
+    let at-put-events = at-head-of .before .before .before in
+    let at-events-place = at-put-events .before .before in
+    let at-joins = at-events-place .before in
+    let at-q = at-joins .before .before .before .before .before .before .before .before .before .before in
+    let at-pieces = at-q .before .before .before .before in
+    let at-start = at-pieces .before .before .before .before .before .before .before .before .before .before .before in
+    let args = at-start .args in (
+      stands-on (args .book .now) (args .first) (args .ats .now) (args .offsets .now) (args .rules .now) (args .events .now) (args .hi .0)
+          (at-behind .behind .ensures) (comes-at at-q .stands),
+      written-on (args .book .now) (args .first) (args .ats .now) (args .offsets .now) (args .rules .now) (args .events .now) (args .hi .0)
+          (written (taken-at at-joins) (at-events-place .events-place .ensures) (at-put-events .put-events .ensures) (at-head-of .head-of .ensures)
+          (at-record-place .record-place .ensures) (at-told .told .ensures) (at-put-record .put-record .ensures)) (at-behind .behind .ensures),
+      at-pieces .pieces .inv .2,
     )
 
-enum-told : tie.Need-enum-told Inv-pieces μ-pieces
-enum-told c = search needs
-
-turn-on-requires : tie.Need-turn-on-requires Inv-pieces μ-pieces
+turn-on-requires : At tie.Need-turn-on-requires
 turn-on-requires c κs =
     let at-enum-told = c .before .before in
     let at-here = at-enum-told .before .before in
     let at-pieces = at-here .before .before in
     let at-start = at-pieces .before .before .before .before .before .before .before .before .before .before .before in
     let args = at-start .args in (
-      (at-start .pre .0 .zone),
-      (at-start .pre .0 .rules-listed),
-      (at-pieces .pieces .inv .2),
-      (shown (args .book .now) (args .first) (args .ats .now)
-          (args .offsets .now) (args .rules .now) (args .events .now) (args .hi .0) (at-start .pre .0) _ _ _ (at-pieces .pieces .inv .0)
-          (at-here .here .ensures) (at-enum-told .enum-told .given .1)),
+      at-start .pre .0 .zone,
+      at-start .pre .0 .rules-listed,
+      at-pieces .pieces .inv .2,
+      shown (args .book .now) (args .first) (args .ats .now) (args .offsets .now) (args .rules .now) (args .events .now) (args .hi .0)
+          (at-start .pre .0) _ _ _ (at-pieces .pieces .inv .0) (at-here .here .ensures) (at-enum-told .enum-told .given .1),
     )
 
-enum-told-2 : tie.Need-enum-told-2 Inv-pieces μ-pieces
-enum-told-2 c = search needs
-
-enum-known-next : tie.Need-enum-known-next Inv-pieces μ-pieces
-enum-known-next c = search needs
-
-pieces-less-2 : tie.Need-pieces-less-2 Inv-pieces μ-pieces
+pieces-less-2 : At tie.Need-pieces-less-2
 pieces-less-2 c =
     let at-next = c .before in
     let at-turn-on = at-next .before .before in
     let at-start = at-turn-on .before .before .before .before .before .before .before .before .before .before .before .before .before .before .before .before .before .before in
     let args = at-start .args in
-    let on = turned (args .book .now) (args .first) (args .ats .now) (args .offsets .now) (args .rules .now) (args .events .now) (args .hi .0) _ _ _
-    (at-turn-on .turn-on .ensures .0) (at-next .next .given .1) in
-    turn-fewer (args .book .now) (args .first) (args .ats .now) (args .offsets .now) (args .rules .now) (args .events .now) (args .hi .0) on
+    turn-fewer (args .book .now) (args .first) (args .ats .now) (args .offsets .now) (args .rules .now) (args .events .now) (args .hi .0)
+    (turned (args .book .now) (args .first) (args .ats .now) (args .offsets .now) (args .rules .now) (args .events .now) (args .hi .0) _ _ _
+    (at-turn-on .turn-on .ensures .0) (at-next .next .given .1))
 
-pieces-again-2 : tie.Need-pieces-again-2 Inv-pieces μ-pieces
+pieces-again-2 : At tie.Need-pieces-again-2
 pieces-again-2 c =
     let at-next = c .before in
     let at-turn-on = at-next .before .before in
     let at-pieces = at-turn-on .before .before .before .before .before .before .before in
     let at-start = at-pieces .before .before .before .before .before .before .before .before .before .before .before in
     let args = at-start .args in
-    let on = turned (args .book .now) (args .first) (args .ats .now) (args .offsets .now) (args .rules .now) (args .events .now) (args .hi .0) _ _ _
-    (at-turn-on .turn-on .ensures .0) (at-next .next .given .1) in (
+    let on = turned (args .book .now) (args .first) (args .ats .now) (args .offsets .now) (args .rules .now) (args .events .now) (args .hi .0) _ _ _ (at-turn-on .turn-on .ensures .0) (at-next .next .given .1) in (
       on .stands,
-      turn-written (args .book .now) (args .first) (args .ats .now) (args .offsets .now) (args .rules .now) (args .events .now)
-          (args .hi .0) on (at-pieces .pieces .inv .1),
-      (at-turn-on .turn-on .ensures .1),
+      turn-written (args .book .now) (args .first) (args .ats .now) (args .offsets .now) (args .rules .now) (args .events .now) (args .hi .0)
+          (at-pieces .pieces .inv .1) on,
+      at-turn-on .turn-on .ensures .1,
     )
 
-close-requires : tie.Need-close-requires Inv-pieces μ-pieces
-close-requires c κs =
-    let at-pieces = c .before .before .before .before .before .before .before .before .before .before in
-    write-hole _ ((at-pieces .pieces .inv) .1)
-
-same-length : tie.Need-same-length Inv-pieces μ-pieces
-same-length c =
-    let at-close = c .before .before in
-    let at-enum-told2 = at-close .before .before in
-    let at-turn-on = at-enum-told2 .before .before in
-    let at-pieces = at-turn-on .before .before .before .before .before .before .before in
-    let at-begin = at-pieces .before .before in
-    let at-start = at-begin .before .before .before .before .before .before .before .before .before in
-    let args = at-start .args in
-    let none-left = gone (args .book .now) (args .first) (args .ats .now) (args .offsets .now) (args .rules .now) (args .events .now) (args .hi .0) _
-    _ _ (at-turn-on .turn-on .ensures .0) (at-enum-told2 .enum-told2 .given .1) in
-    walk-put (args .book .now) (args .first) (args .ats .now) (args .offsets .now) (args .rules .now) (args .events .now) (args .hi .0)
-    (at-start .pre .0) (at-begin .begin .ensures .0) (at-pieces .pieces .inv .1) none-left (at-close .close .ensures) .kept
-
-returns : tie.Need-returns Inv-pieces μ-pieces
+returns : At tie.Need-returns
 returns c =
-    let at-close = c .before .before in
-    let at-enum-told2 = at-close .before .before in
+    let at-enum-told2 = c in
     let at-turn-on = at-enum-told2 .before .before in
     let at-pieces = at-turn-on .before .before .before .before .before .before .before in
     let at-begin = at-pieces .before .before in
     let at-start = at-begin .before .before .before .before .before .before .before .before .before in
     let args = at-start .args in
-    let none-left = gone (args .book .now) (args .first) (args .ats .now) (args .offsets .now) (args .rules .now) (args .events .now) (args .hi .0) _
-    _ _ (at-turn-on .turn-on .ensures .0) (at-enum-told2 .enum-told2 .given .1) in
     walk-put (args .book .now) (args .first) (args .ats .now) (args .offsets .now) (args .rules .now) (args .events .now) (args .hi .0)
-    (at-start .pre .0) (at-begin .begin .ensures .0) (at-pieces .pieces .inv .1) none-left (at-close .close .ensures)
+    (at-start .pre .0) (at-begin .begin .ensures .0) (at-pieces .pieces .inv .1)
+    (gone (args .book .now) (args .first) (args .ats .now) (args .offsets .now) (args .rules .now) (args .events .now) (args .hi .0) _ _ _
+    (at-turn-on .turn-on .ensures .0) (at-enum-told2 .enum-told2 .given .1))
+
+same-length : At tie.Need-same-length
+same-length c = returns c .kept
 
 pub put-walk-spec : {M : Type 1} → statement M
 put-walk-spec =
@@ -343,33 +247,33 @@ put-walk-spec =
     (tie.spec
     Inv-pieces
     μ-pieces
-    sub-begin
+    (λ c. omega arith)
     begin-requires
-    blank-requires
+    (λ c κs. tt)
     pieces-holds
     here-requires
-    enum-known-q
-    cast-rule
-    last-of-requires
+    (λ c. search needs)
+    (λ c. search needs)
+    (λ c κs. tt)
     point-phase-requires
     rule-evidence-requires
-    joins-requires
+    (λ c κs. tt)
     events-place-requires
     put-events-requires
     sub-count
     cast-head-of
     head-of-requires
-    record-place-requires
+    (λ c κs. tt)
     told-requires
+    put-record-requires
     behind-requires
     pieces-less
     pieces-again
-    enum-told
+    (λ c. search needs)
     turn-on-requires
-    enum-told-2
-    enum-known-next
+    (λ c. search needs)
+    (λ c. search needs)
     pieces-less-2
     pieces-again-2
-    close-requires
     same-length
     returns)
