@@ -14,19 +14,17 @@ use Rattle.wire.proofs.Writing.{wrote-length, wrote-wrote, wrote-one, wrote-not
 use Rattle.spans.specs.Spans.{Span, look, Within}
 use Rattle.spans.proofs.Lists.{look-in, look-late, before}
 use Rattle.rows.specs.Rows as Rows
-use Rattle.rows.specs.Rows.{Here, goodRow, segments, segmentsAt}
-use Rattle.rows.specs.Telling.{spanAs, Stands}
+use Rattle.rows.specs.Rows.{goodRow, segments, segmentsAt}
+use Rattle.rows.specs.Telling.{markOf, segmentOf, spanOf, endOf}
 use Rattle.rows.specs.declared.Shows.{Shows}
 use Rattle.rows.specs.declared.Shows.the-variants.{Phase}
 use Rattle.rows.specs.declared.Segment.{Segment}
-use Rattle.rows.proofs.Laws.{here-row, good-within}
+use Rattle.rows.proofs.Laws.{good-within, InRow, row-in, Segmented, row-on, row-split}
 use Rattle.classes.specs.Classes.{shownAt}
 use Rattle.board.specs.Cells.{cellInstant, phaseGlyph, glyph, cellOr, cell, cellsFrom, drawn}
-use Rattle.classes.specs.Reading.{markOf}
 use Rattle.board.specs.Private.{Good, alike, Filled}
 use Rattle.board.specs.declared.grid.Grid.{Grid}
 use Rattle.board.proofs.Columns.{instant-rises, instant-in}
-use Rattle.classes.proofs.Shown.{seen-mark}
 
 -- ---- glyphs
 
@@ -47,8 +45,8 @@ glyph-other p n0 n1 n2 n3 n4 n5 n6 n7 =
     let h = above p (above p (above p (above p (above p (above p (above p (above p z n0) n1) n2) n3) n4) n5) n6) n7 in
     sym (past (46 ∷ 45 ∷ 61 ∷ 35 ∷ 58 ∷ 61 ∷ 95 ∷ 33 ∷ []) p 42 h)
 
-pub glyph-phase : (x : Shows) (p e n b : ℕ) → x ≡ Phase p e n → b ≡ phaseGlyph p → b ≡ glyph (some (markOf x))
-glyph-phase x p e n b i j = rw i j
+pub glyph-phase : (x : Shows) (p e b : ℕ) → x ≡ Phase p e → b ≡ phaseGlyph p → b ≡ glyph (some (markOf x))
+glyph-phase x p e b i j = rw i j
 
 module _ (marker c byte : ℕ) where
   pub cell-marked : c ≡ marker → 124 ≡ cellOr marker c byte
@@ -216,7 +214,7 @@ pub record Ahead (g : Grid) (s : List ℕ) (at c : ℕ) : Type 0 where
   pub rest : (i : ℕ) → c ≤ i → i < g .columns → shownAt (segments s) (cellInstant g i) ≡ shownAt (segmentsAt s at) (cellInstant g i)
   pub low : ℕ
   pub order : Within low (2 ^ 64) (segmentsAt s at)
-  pub on : Here s at
+  pub on : InRow s at
 
 pub record Drawing (g : Grid) (s old new : List ℕ) (at c : ℕ) : Type 0 where
   pub painted : Painted g (segments s) old new c
@@ -227,7 +225,7 @@ module _ (g : Grid) (o : Good g) (s old : List ℕ) (room : g .columns + 2 ≤ l
   draw-start e =
       record {
         painted = paint-start g (segments s) old room;
-        ahead = record { rest = λ i a b. refl; low = 0; order = good-within s e; on = here-row s e };
+        ahead = record { rest = λ i a b. refl; low = 0; order = good-within s e; on = row-in s e };
       }
 
   module _ (new : List ℕ) (at c : ℕ) (d : Drawing g s old new at c) where
@@ -259,20 +257,20 @@ module _ (g : Grid) (o : Good g) (s old : List ℕ) (room : g .columns + 2 ≤ l
           }
 
     -- a segment: blank up to it, then its glyph
-    module _ (x : Segment) (t : Stands s at x) (mid newer : List ℕ) (held r : ℕ) (byte : ℕ)
+    module _ (x : Segment) (is : x ≡ segmentOf s at) (t : Segmented s at) (mid newer : List ℕ) (held r : ℕ) (byte : ℕ)
         (f : Filled g c (x .from .0) 32 new mid held) (e : byte ≡ glyph (some (markOf (x .shows))))
         (h : Filled g held (x .to .0) byte mid newer r) where
       abbrev span : Span Rows.Seen
-      span = spanAs s at x
+      span = spanOf s x
 
       abbrev rest : List (Span Rows.Seen)
-      rest = segmentsAt s (x .behind)
+      rest = segmentsAt s (endOf x)
 
       order : Within (d .ahead .low) (2 ^ 64) (span ∷ rest)
-      order = subst (Within (d .ahead .low) (2 ^ 64)) (t .segments) (d .ahead .order)
+      order = subst (Within (d .ahead .low) (2 ^ 64)) (row-split t is) (d .ahead .order)
 
       by : (i : ℕ) → c ≤ i → i < g .columns → shownAt (segments s) (cellInstant g i) ≡ shownAt (span ∷ rest) (cellInstant g i)
-      by i a b = d .ahead .rest i a b ∙ ap (λ (ss : List (Span Rows.Seen)). shownAt ss (cellInstant g i)) (t .segments)
+      by i a b = d .ahead .rest i a b ∙ ap (λ (ss : List (Span Rows.Seen)). shownAt ss (cellInstant g i)) (row-split t is)
 
       early : (i : ℕ) → c ≤ i → i < held → glyph (shownAt (segments s) (cellInstant g i)) ≡ 32
       early i a b =
@@ -288,7 +286,7 @@ module _ (g : Grid) (o : Good g) (s old : List ℕ) (room : g .columns + 2 ≤ l
           let n = h .inside in
           let l = h .before i a b in
           let m = f .behind i a (omega arith) in
-          ap glyph (by i (omega arith) (omega arith) ∙ look-in (λ (y : Rows.Seen). y .mark) (cellInstant g i) span rest m l ∙ ap some (seen-mark s at (x .shows))) ∙ sym e
+          ap glyph (by i (omega arith) (omega arith) ∙ look-in (λ (y : Rows.Seen). y .mark) (cellInstant g i) span rest m l) ∙ sym e
 
       late : (i : ℕ) → r ≤ i → i < g .columns → shownAt (segments s) (cellInstant g i) ≡ shownAt rest (cellInstant g i)
       late i a b =
@@ -297,12 +295,12 @@ module _ (g : Grid) (o : Good g) (s old : List ℕ) (room : g .columns + 2 ≤ l
           let l = h .behind i a b in
           by i (omega arith) b ∙ look-late (λ (y : Rows.Seen). y .mark) (cellInstant g i) span rest l
 
-      pub draw-on : Drawing g s old newer (x .behind) r
+      pub draw-on : Drawing g s old newer (endOf x) r
       draw-on =
           record {
             painted = paint-more g (segments s) old room mid held (paint-more g (segments s) old room new c (d .painted) (x .from .0) 32 mid held f early)
                 (x .to .0) byte newer r h inner;
-            ahead = record { rest = late; low = x .to .0; order = order .2; on = t .on };
+            ahead = record { rest = late; low = x .to .0; order = order .2; on = row-on t is };
           }
 
     pub draw-end : g .columns ≤ c → new ≡ wrote old 1 (cellsFrom g (segments s) (g .columns) 0)

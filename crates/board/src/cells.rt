@@ -1,4 +1,4 @@
-// A row drawn as cells. The row is judged once and read once, segment by segment, in step with the columns; each byte is written once.
+// A row drawn as cells. It is judged first; then it is read, segment by segment, in step with the columns, and each byte is written once.
 ghost use Prim.Native.Nat.{_+_, _≤_, _<_};
 ghost use mathlib.Core.Path.{_≡_};
 ghost use mathlib.Core.Bool.{true, not, _&&_};
@@ -8,7 +8,7 @@ ghost use Rattle.wire.specs.Fields.{wrote};
 ghost use Rattle.records.specs.Book.{inside, instants};
 ghost use Rattle.lend.specs.Lending.{Lent};
 ghost use Rattle.rows.specs.Rows.{goodRow, segments};
-ghost use Rattle.classes.specs.Reading.{markOf};
+ghost use Rattle.rows.specs.Telling.{markOf};
 ghost use Rattle.board.specs.Cells.{phaseGlyph, glyph, cellOr, cellsFrom, judgedCells, text, cellsNumber, cellsAnswer};
 ghost use Rattle.board.specs.Private.{Good, PaceOf, ColumnOf, Filled};
 use crate::NO_ROOM;
@@ -30,10 +30,10 @@ use query::OUTSIDE;
 use query::Window;
 use query::asked_at;
 use query::asked_window;
-use rows::Read;
 use rows::Shows;
+use rows::end_of;
 use rows::good_row;
-use rows::read_at;
+use rows::segment_at;
 use wire::Placed;
 use wire::place;
 
@@ -65,7 +65,7 @@ fn glyph_of(shows: Shows) -> u8
     ensures { λ r. ⌜ r ≡ glyph (some (markOf shows)) ⌝ }
 {
     match shows {
-        Shows::Phase(phase, evidence, events) => phase_glyph(phase),
+        Shows::Phase(phase, evidence) => phase_glyph(phase),
         Shows::Unknown => b'?',
     }
 }
@@ -106,21 +106,16 @@ fn put_cells(row: &[u8], grid: Grid, out: &mut [u8])
         part: 0,
     };
     while column.c < grid.columns {
-        match read_at(row, at) {
-            Read::End => {
-                column = fill(out, grid, pace, column, LAST, BLANK);
-            }
-            Read::Mark(number, behind) => {
-                column = fill(out, grid, pace, column, LAST, BLANK);
-            }
-            Read::Seen(g) => {
-                let from = g.from;
-                let to = g.to;
-                let shows = g.shows;
-                let held = fill(out, grid, pace, column, from.0, BLANK);
-                column = fill(out, grid, pace, held, to.0, glyph_of(shows));
-                at = g.behind;
-            }
+        if at == row.len() {
+            column = fill(out, grid, pace, column, LAST, BLANK);
+        } else {
+            let g = segment_at(row, at);
+            let from = g.from;
+            let to = g.to;
+            let shows = g.shows;
+            let held = fill(out, grid, pace, column, from.0, BLANK);
+            column = fill(out, grid, pace, held, to.0, glyph_of(shows));
+            at = end_of(g);
         }
     }
 }

@@ -3,25 +3,29 @@ use mathlib.Core.Path.{_≡_, refl, sym, ap, _∙_}
 use mathlib.Core.Bool.{Bool, true, false, cond}
 use mathlib.Core.List.{List, [], _∷_}
 use mathlib.Core.Option.{some}
-use Prim.Native.Nat.{ℕ, _≤_, _<_}
+use Prim.Native.Nat.{ℕ, _+_, _-_, _*_, _≤_, _<_}
 use native.Mathlib.Omega.{arith}
+use lib.ListN.{length}
 use Rattle.records.specs.Book.{trading}
 use Rattle.spans.specs.Spans.{Mark, phase, unknown, Span, look, holds}
 use Rattle.spans.proofs.Lists.{holds-yes, holds-early, holds-late}
 use Rattle.rows.specs.Rows as Rows
-use Rattle.rows.specs.Rows.{Here, segmentsAt}
-use Rattle.rows.specs.Telling.{markAt, rowsAt, seenAs, spanAs, Ended, Marked, Stands}
+use Rattle.rows.specs.Rows.{segmentsAt}
+use Rattle.rows.specs.Telling.{markOf, segmentOf, spanOf, endOf, goodOn, markAt, rowsAt}
 use Rattle.rows.specs.declared.Shows.{Shows}
-use Rattle.rows.specs.declared.Shows.the-variants.{Phase, Unknown}
+use Rattle.rows.specs.declared.Shows.the-variants.{Phase}
 use Rattle.rows.specs.declared.Segment.{Segment}
+use Rattle.rows.proofs.Turns.{mark-holds}
+use Rattle.rows.proofs.Places.{holds as segment-holds, segments-end, mark-end, rows-end, segments-mark, mark-mark, rows-mark}
+use Rattle.rows.proofs.Steps.{Ends, Anew, Sees, Happens, Going, segment-going, event-going}
 use Rattle.classes.specs.Classes.{shownAt, classOf, classAt}
-use Rattle.classes.specs.Reading.{markOf, marks, classIn, firstOf, Classes}
+use Rattle.classes.specs.Reading.{marks, classIn, firstOf, Only, Another}
 use Rattle.classes.specs.declared.Class.{Class}
 use Rattle.classes.specs.declared.Class.the-variants.{Trading, NotTrading, NotKnown, NotShown}
 
 -- ---- a segment's class
 
-module _ (x : Shows) (p e n : ℕ) (i : x ≡ Phase p e n) (b : Bool) (j : b ≡ trading p) where
+module _ (x : Shows) (p e : ℕ) (i : x ≡ Phase p e) (b : Bool) (j : b ≡ trading p) where
   pub class-phase : cond b Trading NotTrading ≡ classOf (some (markOf x))
   class-phase = rw (i, j)
 
@@ -61,61 +65,84 @@ first-some m y = go m
     go (phase p e) = by (trading p)
     go unknown = refl
 
-pub seen-mark : (s : List ℕ) (at : ℕ) (x : Shows) → seenAs s at x .mark ≡ markOf x
-seen-mark s at (Phase p e n) = refl
-seen-mark s at Unknown = refl
-
 -- the class by a segment and those behind it
-pub class-on : (s : List ℕ) (at : ℕ) (g : Segment) (ss : List (Span Rows.Seen)) (t : ℕ) → classAt (spanAs s at g ∷ ss) t ≡ firstOf (classIn g t) (classAt ss t)
+class-on : (s : List ℕ) (g : Segment) (ss : List (Span Rows.Seen)) (t : ℕ) → classAt (spanOf s g ∷ ss) t ≡ firstOf (classIn g t) (classAt ss t)
 unfolding look
-class-on s at g ss t = go (holds (marks g) t)
+class-on s g ss t = go (holds (marks g) t)
   where
-    go : (b : Bool) → classOf (cond b (some (seenAs s at (g .shows) .mark)) (shownAt ss t)) ≡ firstOf (cond b (classOf (some (markOf (g .shows)))) NotShown) (classAt ss t)
-    go true = ap (λ (m : Mark). classOf (some m)) (seen-mark s at (g .shows)) ∙ first-some (markOf (g .shows)) (classAt ss t)
+    go : (b : Bool) → classOf (cond b (some (markOf (g .shows))) (shownAt ss t)) ≡ firstOf (cond b (classOf (some (markOf (g .shows)))) NotShown) (classAt ss t)
+    go true = first-some (markOf (g .shows)) (classAt ss t)
     go false = refl
 
 -- ---- along a row: what is found so far, and the class of what is left, are the row's
 
-pub record Along (s : List ℕ) (at t place : ℕ) (shown : Class) : Type 0 where
-  pub same : firstOf shown (classAt (segmentsAt s place) t) ≡ classAt (segmentsAt s at) t
-  pub next : markAt s at ≡ markAt s place
-  pub after : at ≤ place
-  pub on : Here s place
+pub record Along (allowed : Bool) (s : List ℕ) (start t at least n : ℕ) (shown : Class) : Type 0 where
+  pub going : Going allowed s (goodOn allowed s start 0 0) at least n
+  pub same : firstOf shown (classAt (segmentsAt s (at + 35 * n)) t) ≡ classAt (segmentsAt s start) t
+  pub next : markAt s start ≡ markAt s (at + 35 * n)
+  pub after : start ≤ at
 
-module _ (s : List ℕ) (at t : ℕ) where
-  pub along-start : Here s at → Along s at t at NotShown
-  along-start h = record { same = refl; next = refl; after = omega arith; on = h }
+module _ (allowed : Bool) (s : List ℕ) (start t : ℕ) where
+  pub along-start : start ≤ length s → Along allowed s start t start 0 0 NotShown
+  along-start h =
+      let z : start + 35 * 0 ≡ start = omega arith in
+      record { going = record { same = refl; inside = h }; same = rw z; next = rw z; after = omega arith }
 
-  module _ (place : ℕ) (shown : Class) (a : Along s at t place shown) where
-    found : segmentsAt s place ≡ [] → shown ≡ classAt (segmentsAt s at) t
+  module _ {at least n : ℕ} {shown : Class} (a : Along allowed s start t at least n shown) where
+    -- the row ends here
+    found : n ≡ 0 → segmentsAt s at ≡ [] → shown ≡ classAt (segmentsAt s start) t
     unfolding look
-    found e = sym (first-none shown) ∙ ap (λ (ss : List (Span Rows.Seen)). firstOf shown (classAt ss t)) (sym e) ∙ a .same
+    found z e =
+        let y : at + 35 * n ≡ at = omega arith in
+        sym (first-none shown) ∙ ap (λ (ss : List (Span Rows.Seen)). firstOf shown (classAt ss t)) (sym e)
+        ∙ ap (λ (b : ℕ). firstOf shown (classAt (segmentsAt s b) t)) (sym y) ∙ a .same
 
-    pub along-end : Ended s place → (b : ℕ) → Classes s at t (record { shown = shown; more = false; behind = b })
-    along-end e b =
-        record { shown = found (e .segments); next = ap (rowsAt s) (a .next ∙ e .next) ∙ e .rows }
+    next-at : n ≡ 0 → markAt s at ≡ at → markAt s start ≡ at
+    next-at z e = let y : at + 35 * n ≡ at = omega arith in a .next ∙ ap (markAt s) y ∙ e
 
-    pub along-mark : (n b : ℕ) → Marked s place n b → Classes s at t (record { shown = shown; more = true; behind = b })
-    along-mark n b m =
+    pub along-end : Ends allowed s at least n → Only allowed s start t shown
+    along-end e =
         record {
-          shown = found (m .segments);
-          next = record {
-            number = n;
-            rows = ap (rowsAt s) (a .next ∙ m .next) ∙ m .rows;
-            after = omega (arith, a .after, m .behind);
-            inside = m .inside;
-            on = m .on;
-          };
+          good = a .going .same ∙ e .good;
+          shown = found (e .none) (segments-end s at (e .end));
+          rows = ap (rowsAt s) (next-at (e .none) (mark-end s at (e .end))) ∙ rows-end s at (e .end);
         }
 
-    pub along-on : (g : Segment) → Stands s place g → (x y : Class) → x ≡ classIn g t → y ≡ firstOf shown x → Along s at t (g .behind) y
-    along-on g o x y i j =
-        let rest = classAt (segmentsAt s (g .behind)) t in
+    pub along-mark : Anew allowed s at least n → Another allowed s start t shown (at + 6)
+    along-mark m =
+        let h = mark-holds s at (m .mark) in
+        let i : at < length s = omega (arith, h .0) in
         record {
-          same = ap (λ (x : Class). firstOf x rest) (j ∙ ap (firstOf shown) i) ∙ first-first shown (classIn g t) rest
-              ∙ ap (firstOf shown) (sym (class-on s place g (segmentsAt s (g .behind)) t) ∙ sym (ap (λ (ss : List (Span Rows.Seen)). classAt ss t) (o .segments)))
+          allowed = m .allowed;
+          good = a .going .same ∙ m .on;
+          shown = found (m .none) (segments-mark s at i (h .1));
+          number = _;
+          rows = ap (rowsAt s) (next-at (m .none) (mark-mark s at i (h .1))) ∙ rows-mark s at i;
+          after = omega (arith, a .after);
+          inside = m .inside;
+        }
+
+    pub along-segment : Sees allowed s at least n → {g : Segment} → g ≡ segmentOf s at → {x y : Class} → x ≡ classIn g t → y ≡ firstOf shown x
+        → Along allowed s start t (g .behind) (g .to .0) (g .events) y
+    along-segment o {g} e {x} {y} i j =
+        let h = segment-holds s at (o .segment) in
+        let rest = classAt (segmentsAt s (endOf g)) t in
+        let z : at + 35 * n ≡ at = let k = o .none in omega arith in
+        let spans : segmentsAt s at ≡ spanOf s g ∷ segmentsAt s (endOf g) = rw e (h .segments) in
+        record {
+          going = segment-going (a .going) o e;
+          same = ap (λ (c : Class). firstOf c rest) (j ∙ ap (firstOf shown) i) ∙ first-first shown (classIn g t) rest
+              ∙ ap (firstOf shown) (sym (class-on s g (segmentsAt s (endOf g)) t) ∙ sym (ap (λ (ss : List (Span Rows.Seen)). classAt ss t) (ap (segmentsAt s) z ∙ spans)))
               ∙ a .same;
-          next = a .next ∙ o .next;
-          after = omega (arith, a .after, o .after);
-          on = o .on;
+          next = a .next ∙ ap (markAt s) z ∙ rw e (h .next);
+          after = rw e (omega (arith, a .after, h .after));
+        }
+
+    pub along-event : Happens allowed s at least n → Along allowed s start t (at + 35) least (n - 1) shown
+    along-event o =
+        record {
+          going = event-going (a .going) o;
+          same = rw (o .same) at (a .same);
+          next = rw (o .same) at (a .next);
+          after = omega (arith, a .after);
         }

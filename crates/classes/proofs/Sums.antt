@@ -1,40 +1,20 @@
 -- Rows counted one after the other. Assumes nothing.
-use mathlib.Core.Path.{_≡_, refl, sym, ap, _∙_, subst}
+use mathlib.Core.Path.{_≡_, refl, sym, ap, _∙_}
 use mathlib.Core.Bool.{Bool, true, false, cond}
 use mathlib.Core.List.{List, [], _∷_}
-use Prim.Native.Nat.{ℕ, suc, _+_, _-_, _^_, _≤_, _<_}
+use Prim.Native.Nat.{ℕ, _+_, _^_, _≤_, _<_}
 use native.Mathlib.Omega.{arith}
 use lib.Dec.{eqb}
 use lib.ListN.{length}
-use Rattle.rows.specs.Rows.{Row, goodRows, rows}
-use Rattle.rows.specs.Telling.{markAt, rowsAt}
-use Rattle.rows.proofs.Laws.{rows-begin}
-use Rattle.classes.specs.Classes.{classAt, classNumber, one, numberOf}
-use Rattle.classes.specs.Reading.{Another, Follows, Classes, Few, Added, Counted}
+use Rattle.rows.specs.Rows.{Row, goodMark, goodRows, segmentsAt, rows}
+use Rattle.rows.specs.Telling.{goodOn, markAt, rowsAt}
+use Rattle.rows.proofs.Turns.{mark-holds}
+use Rattle.rows.proofs.Laws.{rows-marked, rows-first}
+use Rattle.classes.specs.Classes.{classAt, classNumber, one, numberOf, counted}
+use Rattle.classes.specs.Reading.{Only, Another, Few, Added, reply}
 use Rattle.classes.specs.declared.Class.{Class}
 use Rattle.classes.specs.declared.Class.the-variants.{Trading, NotTrading, NotKnown, NotShown}
-use Rattle.classes.specs.declared.classing.Classed.{Classed}
 use Rattle.classes.specs.declared.counting.Counts.{Counts}
-
--- the sum so far, of the rows up to a place, and what follows there
-pub record Summing (s : List ℕ) (t : ℕ) (c : Classed) (sum : Counts) : Type 0 where
-  pub at : ℕ
-  pub next : Follows s at (c .more) (c .behind)
-  pub venues : sum .venues + length (rowsAt s (markAt s at)) ≡ length (rows s)
-  pub trading : sum .trading + numberOf Trading (rowsAt s (markAt s at)) t ≡ numberOf Trading (rows s) t
-  pub not-trading : sum .«not_trading» + numberOf NotTrading (rowsAt s (markAt s at)) t ≡ numberOf NotTrading (rows s) t
-  pub not-known : sum .«not_known» + numberOf NotKnown (rowsAt s (markAt s at)) t ≡ numberOf NotKnown (rows s) t
-  pub few : sum .venues ≤ at
-  pub few-trading : sum .trading ≤ sum .venues
-  pub few-not-trading : sum .«not_trading» ≤ sum .venues
-  pub few-not-known : sum .«not_known» ≤ sum .venues
-
-abbrev pub none : Counts
-none = record { venues = 0; trading = 0; «not_trading» = 0; «not_known» = 0 }
-
--- how many bytes are left behind a mark
-abbrev pub leftOf : List ℕ → Classed → ℕ
-leftOf s c = cond (c .more) (suc (length s) - c .behind) 0
 
 one-most : (x y : Class) → one x y ≤ 1
 one-most x y = go (eqb (classNumber x) (classNumber y))
@@ -44,12 +24,30 @@ one-most x y = go (eqb (classNumber x) (classNumber y))
     go false = omega arith
 
 module _ (s : List ℕ) (t : ℕ) where
-  pub sum-start : goodRows s ≡ true → (c : Classed) → Classes s 0 t c → Summing s t c none
-  sum-start g c o =
-      let e : rowsAt s (markAt s 0) ≡ rows s = sym (rows-begin s g .0) in
+  -- how many of the rows from `at` on are of the class x: of the one that begins there, and of those behind it
+  abbrev from : Class → ℕ → ℕ
+  from x at = one x (classAt (segmentsAt s at) t) + numberOf x (rowsAt s (markAt s at)) t
+
+  -- the sum of the rows before `at`, and those from there on, are all
+  pub record Summing (at : ℕ) (sum : Counts) : Type 0 where
+    pub good : goodRows s ≡ goodOn true s at 0 0
+    pub inside : at ≤ length s
+    pub venues : sum .venues + (1 + length (rowsAt s (markAt s at))) ≡ length (rows s)
+    pub trading : sum .trading + from Trading at ≡ numberOf Trading (rows s) t
+    pub not-trading : sum .«not_trading» + from NotTrading at ≡ numberOf NotTrading (rows s) t
+    pub not-known : sum .«not_known» + from NotKnown at ≡ numberOf NotKnown (rows s) t
+    pub few : sum .venues < at
+    pub few-trading : sum .trading ≤ sum .venues
+    pub few-not-trading : sum .«not_trading» ≤ sum .venues
+    pub few-not-known : sum .«not_known» ≤ sum .venues
+
+  pub sum-start : goodMark s 0 ≡ true → Summing 6 (record { venues = 0; trading = 0; «not_trading» = 0; «not_known» = 0 })
+  unfolding numberOf
+  sum-start m =
+      let e = rows-first s m in
       record {
-        at = 0;
-        next = o .next;
+        good = rows-marked s m;
+        inside = mark-holds s 0 m .0;
         venues = omega (arith, ap length e);
         trading = omega (arith, ap (λ (rs : List Row). numberOf Trading rs t) e);
         not-trading = omega (arith, ap (λ (rs : List Row). numberOf NotTrading rs t) e);
@@ -60,66 +58,47 @@ module _ (s : List ℕ) (t : ℕ) where
         few-not-known = omega arith;
       }
 
-  module _ (c : Classed) (sum : Counts) (o : Summing s t c sum) where
-    pub another : c .more ≡ true → Another s (o .at) (c .behind)
-    another m = subst (λ (b : Bool). Follows s (o .at) b (c .behind)) m (o .next)
-
-    pub sum-few : c .more ≡ true → length s < 2 ^ 64 → Few sum
-    sum-few m l =
-        let a = another m in
+  module _ {at : ℕ} {sum : Counts} (o : Summing at sum) where
+    pub sum-few : length s < 2 ^ 64 → Few sum
+    sum-few l =
         record {
-          venues = omega (arith, o .few, a .after, a .inside);
+          venues = omega (arith, o .few, o .inside);
           trading = o .few-trading;
           not-trading = o .few-not-trading;
           not-known = o .few-not-known;
         }
 
-    module _ (m : c .more ≡ true) (d : Classed) (f : Classes s (c .behind) t d) where
-      pub sum-less : leftOf s d < leftOf s c
-      sum-less = rw m (go (d .more) (f .next))
-        where
-          a : Another s (o .at) (c .behind)
-          a = another m
-
-          go : (b : Bool) → Follows s (c .behind) b (d .behind) → cond b (suc (length s) - d .behind) 0 < suc (length s) - c .behind
-          go true n = omega (arith, n .after, n .inside, a .inside)
-          go false n = omega (arith, a .inside)
-
-      -- the rows from the mark on: the one that was classed, and the others
-      then : (x : Class) → numberOf x (rowsAt s (markAt s (o .at))) t ≡ one x (d .shown) + numberOf x (rowsAt s (markAt s (c .behind))) t
+    module _ {x : Class} {sum′ : Counts} (p : Added sum x sum′) where
+      -- another row follows
+      pub sum-on : {b : ℕ} → Another true s at t x b → Summing b sum′
       unfolding numberOf
-      then x =
-          ap (λ (rs : List Row). numberOf x rs t) (another m .rows)
-          ∙ ap (λ (y : Class). one x y + numberOf x (rowsAt s (markAt s (c .behind))) t) (sym (f .shown))
-
-      pub sum-on : (sum′ : Counts) → Added sum (d .shown) sum′ → Summing s t d sum′
-      sum-on sum′ p =
-          let a = another m in
-          let l : length (rowsAt s (markAt s (o .at))) ≡ suc (length (rowsAt s (markAt s (c .behind)))) = ap length (a .rows) in
+      sum-on {b} a =
+          let e = a .rows in
+          let one-is : (y : Class) → one y x ≡ one y (classAt (segmentsAt s at) t) = λ y. ap (one y) (a .shown) in
           record {
-            at = c .behind;
-            next = f .next;
-            venues = omega (arith, l, o .venues, p .venues);
-            trading = omega (arith, then Trading, o .trading, p .trading);
-            not-trading = omega (arith, then NotTrading, o .not-trading, p .not-trading);
-            not-known = omega (arith, then NotKnown, o .not-known, p .not-known);
+            good = o .good ∙ a .good;
+            inside = a .inside;
+            venues = omega (arith, ap length e, o .venues, p .venues);
+            trading = omega (arith, ap (λ (rs : List Row). numberOf Trading rs t) e, o .trading, p .trading, one-is Trading);
+            not-trading = omega (arith, ap (λ (rs : List Row). numberOf NotTrading rs t) e, o .not-trading, p .not-trading, one-is NotTrading);
+            not-known = omega (arith, ap (λ (rs : List Row). numberOf NotKnown rs t) e, o .not-known, p .not-known, one-is NotKnown);
             few = omega (arith, o .few, a .after, p .venues);
-            few-trading = omega (arith, one-most Trading (d .shown), o .few-trading, p .trading, p .venues);
-            few-not-trading = omega (arith, one-most NotTrading (d .shown), o .few-not-trading, p .not-trading, p .venues);
-            few-not-known = omega (arith, one-most NotKnown (d .shown), o .few-not-known, p .not-known, p .venues);
+            few-trading = omega (arith, one-most Trading x, o .few-trading, p .trading, p .venues);
+            few-not-trading = omega (arith, one-most NotTrading x, o .few-not-trading, p .not-trading, p .venues);
+            few-not-known = omega (arith, one-most NotKnown x, o .few-not-known, p .not-known, p .venues);
           }
 
-    -- nothing follows: all rows are counted
-    pub sum-end : c .more ≡ false → Counted (rows s) t sum
-    unfolding numberOf
-    sum-end m =
-        let e : rowsAt s (markAt s (o .at)) ≡ [] = subst (λ (b : Bool). Follows s (o .at) b (c .behind)) m (o .next) in
-        record {
-          venues = omega (arith, ap length e, o .venues);
-          trading = omega (arith, ap (λ (rs : List Row). numberOf Trading rs t) e, o .trading);
-          not-trading = omega (arith, ap (λ (rs : List Row). numberOf NotTrading rs t) e, o .not-trading);
-          not-known = omega (arith, ap (λ (rs : List Row). numberOf NotKnown rs t) e, o .not-known);
-        }
+      -- none does: all rows are counted
+      pub sum-end : Only true s at t x → reply sum′ ≡ counted (rows s) t
+      unfolding numberOf
+      sum-end a =
+          let e = a .rows in
+          let one-is : (y : Class) → one y x ≡ one y (classAt (segmentsAt s at) t) = λ y. ap (one y) (a .shown) in
+          let venues : sum′ .venues ≡ length (rows s) = omega (arith, ap length e, o .venues, p .venues) in
+          let trading : sum′ .trading ≡ numberOf Trading (rows s) t = omega (arith, ap (λ (rs : List Row). numberOf Trading rs t) e, o .trading, p .trading, one-is Trading) in
+          let not-trading : sum′ .«not_trading» ≡ numberOf NotTrading (rows s) t = omega (arith, ap (λ (rs : List Row). numberOf NotTrading rs t) e, o .not-trading, p .not-trading, one-is NotTrading) in
+          let not-known : sum′ .«not_known» ≡ numberOf NotKnown (rows s) t = omega (arith, ap (λ (rs : List Row). numberOf NotKnown rs t) e, o .not-known, p .not-known, one-is NotKnown) in
+          rw (venues, trading, not-trading, not-known)
 
 -- every row is of one class: the rows of none of the three that are counted show nothing
 pub all-classed : (rs : List Row) (t : ℕ)

@@ -10,7 +10,7 @@ use mir.Syntax.{w64}
 use Rattle.wire.specs.Signs.{placed}
 use Rattle.records.specs.Book.{inside, instants, trading}
 use Rattle.spans.specs.Spans.{Mark, phase, unknown, Span, look}
-use Rattle.rows.specs.Rows.{Seen, Row, segments, rows, rowRefusal, rowsRefusal}
+use Rattle.rows.specs.Rows.{Seen, Row, goodRow, goodRows, segments, rows}
 use Rattle.classes.specs.declared.Class.{Class}
 use Rattle.classes.specs.declared.Class.the-variants.{Trading, NotTrading, NotKnown, NotShown}
 use Rattle.classes.specs.declared.ClassReply.{ClassReply}
@@ -44,17 +44,15 @@ unfoldable pub numberOf : Class → List Row → ℕ → ℕ
 numberOf x [] t = 0
 numberOf x (r ∷ rs) t = one x (classAt (r .segments) t) + numberOf x rs t
 
--- 10: the instant outside its range; 15: bad bytes
-abbrev pub classRefusal : List ℕ → ℤ → ℕ
-classRefusal row at = cond (inside instants at) (rowRefusal row) 10
+-- a class; 15 for bytes that are no good row; 10 for an instant outside its range
+abbrev pub noClass : ℕ → ClassReply
+noClass number = record { number = number; shown = 0 }
 
-abbrev pub countRefusal : List ℕ → ℤ → ℕ
-countRefusal bytes at = cond (inside instants at) (rowsRefusal bytes) 10
+abbrev pub judgedClass : List ℕ → ℕ → ClassReply
+judgedClass row t = cond (goodRow row) (record { number = 0; shown = classNumber (classAt (segments row) t) }) (noClass 15)
 
 unfoldable pub classReply : List ℕ → ℤ → ClassReply
-classReply row at =
-    cond (eqb (classRefusal row at) 0) (record { number = 0; shown = classNumber (classAt (segments row) (placed w64 at)) })
-    (record { number = classRefusal row at; shown = 0 })
+classReply row at = cond (inside instants at) (judgedClass row (placed w64 at)) (noClass 10)
 
 -- each row is a venue; a row that shows nothing adds to nothing else
 abbrev pub counted : List Row → ℕ → CountReply
@@ -67,7 +65,12 @@ counted rs t =
       «not_known» = numberOf NotKnown rs t;
     }
 
+-- the counts; 15 for bytes that are no good rows; 10 for an instant outside its range
+abbrev pub noCount : ℕ → CountReply
+noCount number = record { number = number; venues = 0; trading = 0; «not_trading» = 0; «not_known» = 0 }
+
+abbrev pub judgedCount : List ℕ → ℕ → CountReply
+judgedCount bytes t = cond (goodRows bytes) (counted (rows bytes) t) (noCount 15)
+
 unfoldable pub countReply : List ℕ → ℤ → CountReply
-countReply bytes at =
-    cond (eqb (countRefusal bytes at) 0) (counted (rows bytes) (placed w64 at))
-    (record { number = countRefusal bytes at; venues = 0; trading = 0; «not_trading» = 0; «not_known» = 0 })
+countReply bytes at = cond (inside instants at) (judgedCount bytes (placed w64 at)) (noCount 10)

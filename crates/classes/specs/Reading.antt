@@ -5,23 +5,19 @@ use mathlib.Core.Bool.{Bool, true, false, cond}
 use mathlib.Core.List.{List, [], _∷_}
 use mathlib.Core.Option.{some}
 use lib.ListN.{length}
-use Rattle.spans.specs.Spans.{Mark, phase, unknown, Span, holds}
-use Rattle.rows.specs.Rows.{Row, Here, segmentsAt}
-use Rattle.rows.specs.Telling.{markAt, rowsAt}
-use Rattle.rows.specs.declared.Shows.{Shows}
-use Rattle.rows.specs.declared.Shows.the-variants.{Phase, Unknown}
+use Rattle.spans.specs.Spans.{Mark, Span, holds}
+use Rattle.rows.specs.Rows.{Row, segmentsAt}
+use Rattle.rows.specs.Telling.{markOf, goodOn, markAt, rowsAt}
 use Rattle.rows.specs.declared.Segment.{Segment}
-use Rattle.classes.specs.Classes.{classOf, classAt, numberOf, one}
+use Rattle.classes.specs.Classes.{classOf, classAt, one}
 use Rattle.classes.specs.declared.Class.{Class}
 use Rattle.classes.specs.declared.Class.the-variants.{Trading, NotTrading, NotKnown, NotShown}
 use Rattle.classes.specs.declared.classing.Classed.{Classed}
+use Rattle.classes.specs.declared.classing.Classed.the-variants.{Bad, Last, More}
+use Rattle.classes.specs.declared.CountReply.{CountReply}
 use Rattle.classes.specs.declared.counting.Counts.{Counts}
 
--- what a segment shows
-abbrev pub markOf : Shows → Mark
-markOf (Phase p e n) = phase p e
-markOf Unknown = unknown
-
+-- what a segment shows, and from when to when
 abbrev pub marks : Segment → Span Mark
 marks g = record { from = g .from .0; to = g .to .0; body = markOf (g .shows) }
 
@@ -37,21 +33,26 @@ firstOf NotTrading y = NotTrading
 firstOf NotKnown y = NotKnown
 firstOf NotShown y = y
 
--- what follows the segments from `at` on: a mark with a row behind it, or nothing
-pub record Another (s : List ℕ) (at b : ℕ) : Type 0 where
+-- a row from `at` on that nothing follows: its class x
+pub record Only (marks : Bool) (s : List ℕ) (at t : ℕ) (x : Class) : Type 0 where
+  pub good : goodOn marks s at 0 0 ≡ true
+  pub shown : x ≡ classAt (segmentsAt s at) t
+  pub rows : rowsAt s (markAt s at) ≡ []
+
+-- a row that a mark follows, and behind it another row, from b on
+pub record Another (marks : Bool) (s : List ℕ) (at t : ℕ) (x : Class) (b : ℕ) : Type 0 where
+  pub allowed : marks ≡ true
+  pub good : goodOn marks s at 0 0 ≡ goodOn marks s b 0 0
+  pub shown : x ≡ classAt (segmentsAt s at) t
   pub number : ℕ
   pub rows : rowsAt s (markAt s at) ≡ record { number = number; segments = segmentsAt s b } ∷ rowsAt s (markAt s b)
   pub after : at < b
   pub inside : b ≤ length s
-  pub on : Here s b
 
-abbrev pub Follows : List ℕ → ℕ → Bool → ℕ → Type 0
-Follows s at true b = Another s at b
-Follows s at false b = rowsAt s (markAt s at) ≡ []
-
-pub record Classes (s : List ℕ) (at t : ℕ) (r : Classed) : Type 0 where
-  pub shown : r .shown ≡ classAt (segmentsAt s at) t
-  pub next : Follows s at (r .more) (r .behind)
+abbrev pub Classes : Bool → List ℕ → ℕ → ℕ → Classed → Type 0
+Classes marks s at t Bad = goodOn marks s at 0 0 ≡ false
+Classes marks s at t (Last x) = Only marks s at t x
+Classes marks s at t (More x b) = Another marks s at t x b
 
 -- ---- counts
 
@@ -68,8 +69,7 @@ pub record Added (c : Counts) (x : Class) (r : Counts) : Type 0 where
   pub not-trading : r .«not_trading» ≡ c .«not_trading» + one NotTrading x
   pub not-known : r .«not_known» ≡ c .«not_known» + one NotKnown x
 
-pub record Counted (rs : List Row) (t : ℕ) (r : Counts) : Type 0 where
-  pub venues : r .venues ≡ length rs
-  pub trading : r .trading ≡ numberOf Trading rs t
-  pub not-trading : r .«not_trading» ≡ numberOf NotTrading rs t
-  pub not-known : r .«not_known» ≡ numberOf NotKnown rs t
+-- counts as they are handed over
+abbrev pub reply : Counts → CountReply
+reply c =
+    record { number = 0; venues = c .venues; trading = c .trading; «not_trading» = c .«not_trading»; «not_known» = c .«not_known» }

@@ -1,35 +1,39 @@
-// A row's class at an instant, in one reading of the row.
+// A row's class at an instant: the row is judged and classed in one reading.
+ghost use Prim.Native.Nat.{_≤_};
 ghost use mathlib.Core.Path.{_≡_};
 ghost use mathlib.Core.Option.{some};
-ghost use Rattle.rows.specs.Rows.{Here};
+ghost use lib.ListN.{length};
+ghost use Rattle.rows.specs.Telling.{markOf};
 ghost use Rattle.classes.specs.Classes.{classOf, classNumber, classReply};
-ghost use Rattle.classes.specs.Reading.{markOf, classIn, firstOf, Classes};
+ghost use Rattle.classes.specs.Reading.{classIn, firstOf, Classes};
 use crate::BAD_ROW;
 use crate::Class;
 use crate::ClassReply;
+use answer::EVENT_BYTES;
 use query::Asked;
 use query::OUTSIDE;
 use query::asked_at;
 use records::is_trading;
-use rows::Read;
+use rows::MARK_BYTES;
 use rows::Segment;
 use rows::Shows;
-use rows::good_row;
-use rows::read_at;
+use rows::Stands;
+use rows::segment_at;
+use rows::stands_at;
 use wire::place;
 
-// The class of the row whose segments begin at a place, and, if a mark follows them, the place behind it.
-pub(crate) struct Classed {
-    pub(crate) shown: Class,
-    pub(crate) more: bool,
-    pub(crate) behind: usize,
+// The class of a row; and if a mark follows it, the place behind the mark.
+pub(crate) enum Classed {
+    Bad,
+    Last(Class),
+    More(Class, usize),
 }
 
 fn class_of(shows: Shows) -> Class
     ensures { λ r. ⌜ r ≡ classOf (some (markOf shows)) ⌝ }
 {
     match shows {
-        Shows::Phase(phase, evidence, events) => {
+        Shows::Phase(phase, evidence) => {
             if is_trading(phase) {
                 return Class::Trading;
             }
@@ -66,31 +70,37 @@ fn first(a: Class, b: Class) -> Class
     }
 }
 
-pub(crate) fn row_class(rows: &[u8], at: usize, t: u64) -> Classed
-    requires { ⌜ Here (now rows) at ⌝ }
-    ensures { λ r. ⌜ Classes (now (rows .entry)) at t r ⌝ }
+// Of the row that begins at `start`, where marks may follow it or not.
+pub(crate) fn row_class(rows: &[u8], start: usize, marks: bool, t: u64) -> Classed
+    requires { ⌜ start ≤ length (now rows) ⌝ }
+    ensures { λ r. ⌜ Classes marks (now (rows .entry)) start t r ⌝ }
 {
-    let mut place = at;
+    let mut at = start;
+    let mut least: u64 = 0;
+    let mut waiting: u32 = 0;
     let mut shown = Class::NotShown;
     loop {
-        match read_at(rows, place) {
-            Read::End => {
-                return Classed {
-                    shown: shown,
-                    more: false,
-                    behind: place,
-                };
+        match stands_at(rows, at, least, waiting, marks) {
+            Stands::Bad => {
+                return Classed::Bad;
             }
-            Read::Mark(number, behind) => {
-                return Classed {
-                    shown: shown,
-                    more: true,
-                    behind: behind,
-                };
+            Stands::End => {
+                return Classed::Last(shown);
             }
-            Read::Seen(g) => {
+            Stands::Mark => {
+                return Classed::More(shown, at + MARK_BYTES);
+            }
+            Stands::Segment => {
+                let g = segment_at(rows, at);
                 shown = first(shown, class_in(g, t));
-                place = g.behind;
+                let to = g.to;
+                at = g.behind;
+                least = to.0;
+                waiting = g.events;
+            }
+            Stands::Event => {
+                at += EVENT_BYTES;
+                waiting -= 1;
             }
         }
     }
@@ -119,16 +129,13 @@ pub fn class_answer(row: &[u8], at: i64) -> ClassReply
 {
     match asked_at(at) {
         Asked::Outside => no_class(OUTSIDE),
-        Asked::At(t) => {
-            if !good_row(row) {
-                return no_class(BAD_ROW);
-            }
-            let c = row_class(row, 0, place(at).0);
-            let shown = c.shown;
-            ClassReply {
+        Asked::At(t) => match row_class(row, 0, false, place(at).0) {
+            Classed::Bad => no_class(BAD_ROW),
+            Classed::Last(shown) => ClassReply {
                 number: 0,
                 shown: number_of(shown),
-            }
-        }
+            },
+            Classed::More(shown, behind) => no_class(BAD_ROW),
+        },
     }
 }

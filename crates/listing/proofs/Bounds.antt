@@ -13,7 +13,7 @@ use Rattle.spans.specs.Spans.{phase, unknown}
 use Rattle.answer.specs.Forms
 use Rattle.rows.specs.Rows.{placedAt, fromAt, toAt, countAt, behindPhase, behindGap, eventOf, eventsFrom, phaseSeen, gapSeen, segments, segmentsAt, enough, goodFrom, goodRow}
 use Rattle.rows.proofs.Turns.{phase-holds, gap-holds, mark-holds, Goes, ends, phases, gaps, anew, none, goes}
-use Rattle.rows.proofs.Places.{ended, segments-phase, segments-gap, segments-mark}
+use Rattle.rows.proofs.Places.{segments-end, segments-phase, segments-gap, segments-mark}
 use Rattle.listing.specs.Text.{decimal, instant, fields}
 use Rattle.listing.specs.Listing.{headLine, segmentLine, eventLine, eventLines, segmentLines, allLines, rowText}
 use Rattle.listing.specs.Private.{Fits}
@@ -80,7 +80,7 @@ module _ (s : List ℕ) (b : Bytes s) where
   lines-short marks (suc n) at least g = go (goes marks s at least n g) (λ p l. lines-short marks n p l)
     where
       go : Goes marks n s at least → ((p l : ℕ) → goodFrom marks n s p l ≡ true → Short p) → Short at
-      go (ends e) on = rw (ended s at e .segments) (omega arith, omega arith)
+      go (ends e) on = rw (segments-end s at e) (omega arith, omega arith)
       go (phases p l v f) on =
           let t = phase-holds s at p in
           let more = on (behindPhase s at) (toAt s at) f in

@@ -2,66 +2,47 @@
 use Prim.Native.Nat.{ℕ, zero, suc, _+_, _-_, _*_, _≤_, _<_}
 use native.Mathlib.Omega.{arith}
 use mathlib.Core.Path.{_≡_, ap, subst}
-use mathlib.Core.List.{List, [], _++_, append-nil}
+use mathlib.Core.Bool.{true}
+use mathlib.Core.List.{List, [], _++_}
 use lib.ListN.{length}
-use Rattle.wire.specs.Fields.{Inside}
-use Rattle.spans.specs.Spans.{phase, unknown}
-use Rattle.rows.specs.Rows.{Here, eventOf, eventsFrom, segments, segmentsAt}
-use Rattle.rows.specs.Telling.{Tells, Stands, Counted, spanAs}
-use Rattle.rows.specs.declared.Read.{Read}
-use Rattle.rows.specs.declared.Read.the-variants.{End, Mark, Seen}
+use Rattle.rows.specs.Rows.{goodRow, eventOf, eventsFrom, segments, segmentsAt}
+use Rattle.rows.specs.Telling.{segmentOf, spanOf, endOf}
 use Rattle.rows.specs.declared.Segment.{Segment}
-use Rattle.rows.specs.declared.Shows.the-variants.{Phase, Unknown}
-use Rattle.listing.specs.Listing.{segmentLine, eventLine, eventLines, segmentLines, allLines}
+use Rattle.rows.proofs.Places.{segments-end}
+use Rattle.rows.proofs.Laws.{InRow, row-in, Segmented, end-after, row-on, row-split}
+use Rattle.listing.specs.Listing.{eventLine, eventLines, segmentLines, allLines}
 use Rattle.listing.specs.Private.{Puts}
 use Rattle.listing.proofs.Writing.{Going, ends}
-
-module _ (s : List ℕ) (at : ℕ) {r : Read} (t : Tells s at r) where
-  pub stands : {g : Segment} → r ≡ Seen g → Stands s at g
-  stands e = rw e at t
-
-  -- no segment is left: at the end, or at a mark
-  pub over : r ≡ End → segmentsAt s at ≡ []
-  over e = let u : Tells s at End = rw e at t in u .segments
-
-  pub before-mark : {n b : ℕ} → r ≡ Mark n b → segmentsAt s at ≡ []
-  before-mark {n} {b} e = let u : Tells s at (Mark n b) = rw e at t in u .segments
 
 -- ---- segments are counted
 
 pub record Counting (s : List ℕ) (at seen : ℕ) : Type 0 where
-  pub here : Here s at
+  pub here : InRow s at
   pub all : seen + length (segmentsAt s at) ≡ length (segments s)
   pub few : seen ≤ at
-  pub inside : at ≤ length s
 
-pub count-none : {s : List ℕ} → Here s 0 → Counting s 0 0
-count-none h = record { here = h; all = omega arith; few = omega arith; inside = omega arith }
+pub count-none : {s : List ℕ} → goodRow s ≡ true → Counting s 0 0
+count-none {s} e = record { here = row-in s e; all = omega arith; few = omega arith }
 
-pub count-one : {s : List ℕ} {at seen : ℕ} {g : Segment} → Counting s at seen → Stands s at g → Counting s (g .behind) (seen + 1)
-count-one {s} {at} {seen} {g} c t =
-    let l = ap length (t .segments) in
-    record {
-      here = t .on;
-      all = omega (arith, c .all, l);
-      few = omega (arith, c .few, t .after);
-      inside = t .inside;
-    }
+pub count-one : {s : List ℕ} {at seen : ℕ} → Counting s at seen → Segmented s at → {g : Segment} → g ≡ segmentOf s at → Counting s (endOf g) (seen + 1)
+count-one {s} {at} {seen} c t {g} e =
+    let l = ap length (row-split t e) in
+    record { here = row-on t e; all = omega (arith, c .all, l); few = omega (arith, c .few, end-after t e) }
 
-pub count-over : {s : List ℕ} {at seen : ℕ} → Counting s at seen → segmentsAt s at ≡ [] → seen ≡ length (segments s)
-count-over c e = let l = ap length e in omega (arith, c .all, l)
+pub count-over : {s : List ℕ} {at seen : ℕ} → Counting s at seen → at ≡ length s → seen ≡ length (segments s)
+count-over {s} {at} c e = let l = ap length (segments-end s at e) in omega (arith, c .all, l)
 
 -- ---- segments are listed
 
-pub list-one : {old whole s new : List ℕ} {at from next : ℕ} {g : Segment} → Going old at whole (allLines (segmentsAt s from)) new next → Stands s from g
-    → Going old at whole (segmentLines (spanAs s from g) ++ allLines (segmentsAt s (g .behind))) new next
+pub list-one : {old whole s new : List ℕ} {at from next : ℕ} → Going old at whole (allLines (segmentsAt s from)) new next → Segmented s from
+    → {g : Segment} → g ≡ segmentOf s from → Going old at whole (segmentLines (spanOf s g) ++ allLines (segmentsAt s (endOf g))) new next
 unfolding allLines
-list-one {s = s} {from = from} {g = g} w t = rw (t .segments) at w
+list-one w t e = rw (row-split t e) at w
 
-pub list-over : {old whole new : List ℕ} {at next : ℕ} (s : List ℕ) (from : ℕ) → Going old at whole (allLines (segmentsAt s from)) new next → segmentsAt s from ≡ []
+pub list-over : {old whole new : List ℕ} {at next : ℕ} (s : List ℕ) (from : ℕ) → Going old at whole (allLines (segmentsAt s from)) new next → from ≡ length s
     → Puts old at whole new next
 unfolding allLines
-list-over {old} {whole} {new} {at} {next} s from w e = let v : Going old at whole [] new next = rw e at w in ends v
+list-over {old} {whole} {new} {at} {next} s from w e = let v : Going old at whole [] new next = rw (segments-end s from e) at w in ends v
 
 -- ---- events are listed
 
@@ -86,19 +67,3 @@ same-event s from a c e f = rw (e, f)
 pub event-put : {old new : List ℕ} {at next : ℕ} (s : List ℕ) (from a c : ℕ) → a ≡ eventOf s from .at → c ≡ eventOf s from .code
     → Puts old at (eventLine (record { at = a; code = c })) new next → Puts old at (eventLine (eventOf s from)) new next
 event-put {old} {new} {at} {next} s from a c e f p = subst (λ (v : List ℕ). Puts old at v new next) (same-event s from a c e f) p
-
--- ---- what a segment shows
-
-pub shows-phase : (s : List ℕ) (at : ℕ) (g : Segment) (p e n : ℕ) → g .shows ≡ Phase p e n
-    → segmentLines (spanAs s at g) ≡ segmentLine (g .from .0) (g .to .0) (phase p e) ++ eventLines (eventsFrom s (at + 105) n)
-shows-phase s at g p e n i = rw i
-
-pub shows-unknown : (s : List ℕ) (at : ℕ) (g : Segment) → g .shows ≡ Unknown → segmentLines (spanAs s at g) ≡ segmentLine (g .from .0) (g .to .0) unknown
-unfolding eventLines
-shows-unknown s at g i = rw i (append-nil _)
-
--- its events lie in the row
-pub phase-events : {s : List ℕ} {at : ℕ} {g : Segment} {p e n : ℕ} → Stands s at g → g .shows ≡ Phase p e n → Inside (at + 105) (35 * n) s
-phase-events {s} {at} {g} {p} {e} {n} t i =
-    let c : Counted s at p n (g .behind) = rw i at (t .shown) in
-    omega (arith, t .inside, c .reach, c .exact)

@@ -1,12 +1,13 @@
 // The lines of the text. Each function writes from `at` on and answers the place behind what it wrote.
 ghost use Prim.Native.Nat.{_≤_, _*_};
 ghost use mathlib.Core.Path.{_≡_};
+ghost use mathlib.Core.Bool.{true};
 ghost use mathlib.Core.List.{[], _∷_};
 ghost use lib.ListN.{length};
 ghost use Rattle.wire.specs.Fields.{Inside};
 ghost use Rattle.spans.specs.Spans.{phase, unknown};
-ghost use Rattle.rows.specs.Rows.{Here, segments, eventsFrom};
-ghost use Rattle.rows.specs.Telling.{Stands, spanAs};
+ghost use Rattle.rows.specs.Rows.{goodRow, segments, eventsFrom};
+ghost use Rattle.rows.specs.Telling.{markOf, spanOf};
 ghost use Rattle.listing.specs.Listing.{headLine, segmentLine, eventLine, eventLines, segmentLines, allLines};
 ghost use Rattle.listing.specs.Private.{Fits, Puts};
 use crate::text::put_byte;
@@ -14,13 +15,11 @@ use crate::text::put_instant;
 use crate::text::put_number;
 use crate::text::put_word;
 use answer::EVENT_BYTES;
-use answer::PHASE_BYTES;
-use rows::Event;
-use rows::Read;
 use rows::Segment;
 use rows::Shows;
+use rows::end_of;
 use rows::event_at;
-use rows::read_at;
+use rows::segment_at;
 use wire::Placed;
 
 pub(crate) fn put_head(out: &mut [u8], at: usize, number: u32, count: usize) -> usize
@@ -83,59 +82,54 @@ fn put_events(answer: &[u8], first: usize, n: u32, out: &mut [u8], at: usize) ->
     place
 }
 
-// A segment that stands in the answer at `from`, and its events below it.
-fn put_segment(answer: &[u8], from: usize, g: Segment, out: &mut [u8], at: usize) -> usize
-    requires { ⌜ Stands (now answer) from g × Fits at (segmentLines (spanAs (now answer) from g)) (now out) ⌝ }
-    ensures { λ r. ⌜ Puts (now (out .entry)) at (segmentLines (spanAs (now (answer .entry)) from g)) (now (out .exit)) r ⌝ }
+fn put_shown(out: &mut [u8], at: usize, from: Placed, to: Placed, shows: Shows) -> usize
+    requires { ⌜ Fits at (segmentLine (from .0) (to .0) (markOf shows)) (now out) ⌝ }
+    ensures { λ r. ⌜ Puts (now (out .entry)) at (segmentLine (from .0) (to .0) (markOf shows)) (now (out .exit)) r ⌝ }
 {
-    let start = g.from;
-    let end = g.to;
-    let shows = g.shows;
     match shows {
-        Shows::Phase(phase, evidence, n) => {
-            let next = put_phase(out, at, start, end, phase, evidence);
-            put_events(answer, from + PHASE_BYTES, n, out, next)
-        }
-        Shows::Unknown => put_unknown(out, at, start, end),
+        Shows::Phase(phase, evidence) => put_phase(out, at, from, to, phase, evidence),
+        Shows::Unknown => put_unknown(out, at, from, to),
     }
+}
+
+// A segment of the answer, and its events below it.
+fn put_segment(answer: &[u8], g: Segment, out: &mut [u8], at: usize) -> usize
+    requires { ⌜ Inside (g .behind) (35 * g .events) (now answer) × Fits at (segmentLines (spanOf (now answer) g)) (now out) ⌝ }
+    ensures { λ r. ⌜ Puts (now (out .entry)) at (segmentLines (spanOf (now (answer .entry)) g)) (now (out .exit)) r ⌝ }
+{
+    let from = g.from;
+    let to = g.to;
+    let shows = g.shows;
+    let next = put_shown(out, at, from, to, shows);
+    put_events(answer, g.behind, g.events, out, next)
 }
 
 // How many segments a row has.
 pub(crate) fn count(answer: &[u8]) -> usize
-    requires { ⌜ Here (now answer) 0 ⌝ }
+    requires { ⌜ goodRow (now answer) ≡ true ⌝ }
     ensures { λ r. ⌜ r ≡ length (segments (now (answer .entry))) ⌝ }
 {
     let mut at: usize = 0;
     let mut seen: usize = 0;
-    'row: loop {
-        match read_at(answer, at) {
-            Read::Seen(g) => {
-                seen += 1;
-                at = g.behind;
-            }
-            Read::End => break 'row,
-            Read::Mark(_, _) => break 'row,
-        }
+    while at != answer.len() {
+        let g = segment_at(answer, at);
+        seen += 1;
+        at = end_of(g);
     }
     seen
 }
 
 // The lines of all segments of a row.
 pub(crate) fn put_all(answer: &[u8], out: &mut [u8], at: usize) -> usize
-    requires { ⌜ Here (now answer) 0 × Fits at (allLines (segments (now answer))) (now out) ⌝ }
+    requires { ⌜ (goodRow (now answer) ≡ true) × Fits at (allLines (segments (now answer))) (now out) ⌝ }
     ensures { λ r. ⌜ Puts (now (out .entry)) at (allLines (segments (now (answer .entry)))) (now (out .exit)) r ⌝ }
 {
     let mut from: usize = 0;
     let mut place = at;
-    'row: loop {
-        match read_at(answer, from) {
-            Read::Seen(g) => {
-                place = put_segment(answer, from, g, out, place);
-                from = g.behind;
-            }
-            Read::End => break 'row,
-            Read::Mark(_, _) => break 'row,
-        }
+    while from != answer.len() {
+        let g = segment_at(answer, from);
+        place = put_segment(answer, g, out, place);
+        from = end_of(g);
     }
     place
 }

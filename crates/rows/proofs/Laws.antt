@@ -2,51 +2,136 @@
 use mathlib.Core.Path.{_≡_, refl, sym, ap, _∙_}
 use mathlib.Core.Bool.{Bool, true, false, _&&_, _||_}
 use mathlib.Core.List.{List, [], _∷_}
-use Prim.Native.Nat.{ℕ, zero, suc, _+_, _*_, _^_, _≤_, _<_}
+use Prim.Native.Nat.{ℕ, zero, suc, _+_, _-_, _*_, _^_, _≤_, _<_}
 use native.Mathlib.Omega.{arith}
-use borrow.Author.Tests.{le-leb, lt-leb, eqb-true}
+use borrow.Author.Tests.{le-leb, lt-leb, eqb-true, ne-eqb}
 use lib.Dec.{eqb}
 use lib.ListN.{length}
 use Rattle.wire.proofs.Signs.{and-true}
 use Rattle.spans.specs.Spans.{Within}
-use Rattle.rows.specs.Rows.{Row, Here, toAt, behindPhase, behindGap, behindMark, enough, left, eventsFrom, segments, segmentsAt, rowsFrom, rows}
-use Rattle.rows.specs.Rows.{goodEvent, goodMark, goodEvents, goodFrom, goodRow, goodRows}
-use Rattle.rows.specs.Telling.{markAt, rowsAt}
-use Rattle.rows.proofs.Turns.{untrue, phase-holds, gap-holds, mark-holds, event-holds, Goes, ends, phases, gaps, anew, none, goes, at-end}
-use Rattle.rows.proofs.Places.{ended, segments-phase, segments-gap, segments-mark, mark-phase, mark-gap, mark-mark}
+use Rattle.rows.specs.Rows.{Row, fromAt, toAt, behindPhase, behindGap, behindMark, enough, left, eventsFrom, segments, segmentsAt, rowsFrom, rows}
+use Rattle.rows.specs.Rows.{goodPhase, goodEvent, goodSegment, goodMark, goodEvents, goodFrom, goodAt, goodRow, goodRows}
+use Rattle.rows.specs.Telling.{segmentOf, spanOf, endOf, goodOn, markAt, rowsAt}
+use Rattle.rows.specs.declared.Segment.{Segment}
+use Rattle.rows.proofs.Turns.{untrue, phase-holds, gap-holds, mark-holds, event-holds, events-room, mark-on, within, Goes, ends, phases, gaps, anew, none, goes, at-end}
+use Rattle.rows.proofs.Places.{holds, segment-room, no-mark, no-segment, good-look, good-left, rowAt, rows-mark, segments-end, mark-end, segments-phase, segments-gap, segments-mark, mark-phase, mark-gap, mark-mark}
 
 -- ---- where to begin
 
-pub here-row : (s : List ℕ) → goodRow s ≡ true → Here s 0
+-- a row is good if what stands from its first byte on is
+pub row-begin : (s : List ℕ) → goodRow s ≡ goodOn false s 0 0 0
+unfolding goodRow goodEvents
+row-begin s = let z : enough s - 0 ≡ enough s = omega arith in rw z
+
+either : (a : Bool) {b : Bool} → b ≡ true → (a || b) ≡ true
+either true e = refl
+either false e = e
+
+-- ---- a good row, segment by segment
+
+-- from `at` on
+pub record InRow (s : List ℕ) (at : ℕ) : Type 0 where
+  pub least : ℕ
+  pub good : goodAt false s at least ≡ true
+
+pub row-in : (s : List ℕ) → goodRow s ≡ true → InRow s 0
 unfolding goodRow
-here-row s e = record { marks = false; looks = enough s; least = 0; good = e }
+row-in s e = let z : enough s - 0 ≡ enough s = omega arith in record { least = 0; good = rw z e }
+
+-- there is a segment, unless the row ends, and behind it and its events the row goes on
+pub record Segmented (s : List ℕ) (at : ℕ) : Type 0 where
+  pub segment : goodSegment s at ≡ true
+  pub events : goodEvents s (segmentOf s at .behind) (segmentOf s at .events) ≡ true
+  pub inside : endOf (segmentOf s at) ≤ length s
+  pub on : InRow s (endOf (segmentOf s at))
+
+pub segmented : (s : List ℕ) (at : ℕ) → InRow s at → (at ≡ length s → ⊥) → Segmented s at
+segmented s at o n =
+    let h = within false s at (o .least) (left s at) (o .good) in
+    go (goes false s at (o .least) (length s) (sym (good-look s false at (o .least) h) ∙ o .good))
+  where
+    by : goodSegment s at ≡ true → o .least ≤ fromAt s at → Segmented s at
+    by g l =
+        let t = holds s at g in
+        let e = and-true (goodEvents s (segmentOf s at .behind) (segmentOf s at .events)) (goodAt false s (endOf (segmentOf s at)) (segmentOf s at .to .0)) (sym (t .good false (o .least) l) ∙ o .good) in
+        record {
+          segment = g;
+          events = e .0;
+          inside = events-room s (segmentOf s at .behind) (segmentOf s at .events) (t .inside) (e .0);
+          on = record { least = segmentOf s at .to .0; good = e .1 };
+        }
+
+    go : Goes false (length s) s at (o .least) → Segmented s at
+    go (ends e) = absurd (n e)
+    go (phases p l v f) = by (simp p) l
+    go (gaps p l f) = by (either (goodPhase s at) p) l
+    go (anew e p f) = absurd (untrue e)
+
+module _ {s : List ℕ} {at : ℕ} (t : Segmented s at) {g : Segment} (e : g ≡ segmentOf s at) where
+  pub end-inside : endOf g ≤ length s
+  end-inside = rw e (t .inside)
+
+  pub end-after : at < endOf g
+  end-after = let h = holds s at (t .segment) in rw e (omega (arith, h .after))
+
+  pub row-on : InRow s (endOf g)
+  row-on = rw e (t .on)
+
+  pub row-split : segmentsAt s at ≡ spanOf s g ∷ segmentsAt s (endOf g)
+  row-split = rw e (holds s at (t .segment) .segments)
+
+-- ---- marked rows
+
+-- they are good if there are none, or if a mark stands first and what stands behind it is good
+module _ (s : List ℕ) where
+  pub rows-none : length s ≡ 0 → (goodRows s ≡ true) × (rows s ≡ [])
+  unfolding goodRows rowsFrom
+  rows-none e = (simp e, simp (le-leb (length s) 0 (omega arith)))
+
+  pub rows-bad : goodOn true s 0 0 0 ≡ false → goodRows s ≡ false
+  unfolding goodRows goodEvents
+  rows-bad e = go (eqb (length s) 0) refl (goodMark s 0)
+    where
+      z : enough s - 0 ≡ enough s
+      z = omega arith
+
+      go : (b : Bool) → eqb (length s) 0 ≡ b → (m : Bool) → (b || (m && goodFrom true (enough s) s 0 0)) ≡ false
+      go true i m = absurd (untrue (sym e ∙ rw z (at-end true s 0 0 (length s) (sym (eqb-true (length s) 0 i)))))
+      go false i true = rw z at e
+      go false i false = refl
+
+  pub rows-unmarked : goodSegment s 0 ≡ true → goodRows s ≡ false
+  unfolding goodRows
+  rows-unmarked e =
+      let h = segment-room s 0 e in
+      simp (ne-eqb (length s) 0 (λ i. omega arith), no-mark s 0 e)
+
+  pub rows-marked : goodMark s 0 ≡ true → goodRows s ≡ goodOn true s 6 0 0
+  unfolding goodRows goodEvents
+  rows-marked m =
+      let h = mark-holds s 0 m in
+      let i : 0 < length s = omega (arith, h .0) in
+      let o = no-segment s 0 m in
+      simp (ne-eqb (length s) 0 (λ e. omega arith), m) (mark-on true s 0 0 i (o .0) (o .1) m (length s) ∙ good-left s true 0 0 6 0 (omega arith))
+
+  pub rows-first : goodMark s 0 ≡ true → rows s ≡ rowAt s 0 ∷ rowsAt s (markAt s 6)
+  rows-first m =
+      let h = mark-holds s 0 m in
+      let z : enough s ≡ left s 0 = omega arith in
+      ap (λ (n : ℕ). rowsFrom n s 0) z ∙ rows-mark s 0 (omega (arith, h .0))
 
 -- no bytes, or a mark first
-begun : (s : List ℕ) → goodRows s ≡ true → (goodFrom true (enough s) s 0 0 ≡ true) × (markAt s 0 ≡ 0) × (segmentsAt s 0 ≡ [])
+begun : (s : List ℕ) → goodRows s ≡ true → (goodFrom true (enough s) s 0 0 ≡ true) × (markAt s 0 ≡ 0)
 unfolding goodRows
 begun s e = go (eqb (length s) 0) refl e
   where
     go : (b : Bool) → eqb (length s) 0 ≡ b → (b || (goodMark s 0 && goodFrom true (enough s) s 0 0)) ≡ true
-        → (goodFrom true (enough s) s 0 0 ≡ true) × (markAt s 0 ≡ 0) × (segmentsAt s 0 ≡ [])
-    go true i q =
-        let z : 0 ≡ length s = sym (eqb-true (length s) 0 i) in
-        let t = ended s 0 z in
-        (at-end true s 0 0 (length s) z, t .next, t .segments)
+        → (goodFrom true (enough s) s 0 0 ≡ true) × (markAt s 0 ≡ 0)
+    go true i q = let z : 0 ≡ length s = sym (eqb-true (length s) 0 i) in (at-end true s 0 0 (length s) z, mark-end s 0 z)
     go false i q =
         let a = and-true (goodMark s 0) (goodFrom true (enough s) s 0 0) q in
         let m = mark-holds s 0 (a .0) in
-        let h : 0 < length s = omega (arith, m .0) in
-        (a .1, mark-mark s 0 h (m .1), segments-mark s 0 h (m .1))
-
-pub here-rows : (s : List ℕ) → goodRows s ≡ true → Here s 0
-here-rows s e = record { marks = true; looks = enough s; least = 0; good = begun s e .0 }
-
--- the first mark stands first, so all rows are still to come
-pub rows-begin : (s : List ℕ) → goodRows s ≡ true → (rows s ≡ rowsAt s (markAt s 0)) × (segmentsAt s 0 ≡ [])
-rows-begin s e =
-    let b = begun s e in
-    let z : enough s ≡ left s 0 = omega arith in
-    (ap (λ (n : ℕ). rowsFrom n s 0) z ∙ ap (λ (p : ℕ). rowsAt s p) (sym (b .1)), b .2)
+        (a .1, mark-mark s 0 (omega (arith, m .0)) (m .1))
 
 -- ---- segments are not empty, in order, and do not overlap
 
@@ -57,7 +142,7 @@ module _ (marks : Bool) (s : List ℕ) where
     where
       go : Goes marks n s at least → ((b l : ℕ) → goodFrom marks n s b l ≡ true → l ≤ 2 ^ 64 → Within l (2 ^ 64) (segmentsAt s b))
           → Within least (2 ^ 64) (segmentsAt s at)
-      go (ends e) on = rw (ended s at e .segments) h
+      go (ends e) on = rw (segments-end s at e) h
       go (phases p l v f) on =
           let t = phase-holds s at p in
           rw (segments-phase s at (omega (arith, t .whole)) (t .kind)) (l, t .forward, on (behindPhase s at) (toAt s at) f (omega arith))
@@ -85,7 +170,7 @@ to-mark s zero at least g = absurd (none true s at least g)
 to-mark s (suc n) at least g = go (goes true s at least n g) (λ b l. to-mark s n b l)
   where
     go : Goes true n s at least → ((b l : ℕ) → goodFrom true n s b l ≡ true → AtMark s (markAt s b)) → AtMark s (markAt s at)
-    go (ends e) on = rw (ended s at e .next) (over (omega arith))
+    go (ends e) on = rw (mark-end s at e) (over (omega arith))
     go (phases p l v f) on =
         let t = phase-holds s at p in
         rw (mark-phase s at (omega (arith, t .whole)) (t .kind)) (on (behindPhase s at) (toAt s at) f)
@@ -113,7 +198,7 @@ unmarked s zero at least g = absurd (none false s at least g)
 unmarked s (suc n) at least g = go (goes false s at least n g) (λ b l. unmarked s n b l)
   where
     go : Goes false n s at least → ((b l : ℕ) → goodFrom false n s b l ≡ true → markAt s b ≡ length s) → markAt s at ≡ length s
-    go (ends e) on = ended s at e .next ∙ e
+    go (ends e) on = mark-end s at e ∙ e
     go (phases p l v f) on = let t = phase-holds s at p in mark-phase s at (omega (arith, t .whole)) (t .kind) ∙ on (behindPhase s at) (toAt s at) f
     go (gaps p l f) on = let t = gap-holds s at p in mark-gap s at (omega (arith, t .whole)) (t .kind) ∙ on (behindGap at) (toAt s at) f
     go (anew e p f) on = absurd (untrue e)

@@ -1,6 +1,6 @@
 pub mod Turns
 pub mod Judging
 pub mod Places
+pub mod Steps
 pub mod Laws
-pub mod Once
 pub mod Writing

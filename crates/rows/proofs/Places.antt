@@ -1,20 +1,20 @@
--- What is read at a place of good bytes. Assumes nothing.
+-- What stands at a place does not depend on how many records are looked at, and is what is read there. Assumes nothing.
 use mathlib.Core.Path.{_≡_, refl, sym, ap, _∙_}
-use mathlib.Core.Bool.{Bool, true, false, cond}
+use mathlib.Core.Bool.{Bool, true, false, cond, _&&_, _||_}
 use mathlib.Core.List.{List, [], _∷_}
-use Prim.Native.Nat.{ℕ, zero, suc, _+_, _-_, _≤_, _<_, min}
+use Prim.Native.Nat.{ℕ, zero, suc, _+_, _-_, _*_, _≤_, _<_, min}
 use native.Mathlib.Omega.{arith}
-use borrow.Author.Tests.{le-leb, lt-leb, leb-false}
+use borrow.Author.Tests.{le-leb, lt-leb, leb-false, eq-eqb, ne-eqb}
 use lib.Dec.{leb, eqb}
 use lib.ListN.{length}
 use Rattle.records.specs.Layout.{number, kind}
 use Rattle.spans.specs.Spans.{Span}
 use Rattle.answer.specs.Forms
-use Rattle.rows.specs.Rows.{Seen, Row, Here, toAt, countAt, behindPhase, behindGap, behindMark, enough, left, phaseSeen, gapSeen}
-use Rattle.rows.specs.Rows.{goodPhase, goodGap, goodMark, goodEvents, goodFrom, segmentsFrom, segmentsAt, markFrom, rowsFrom}
-use Rattle.rows.specs.Telling.{markAt, rowsAt, Ended, Marked, Stands}
-use Rattle.rows.specs.Private.{phaseSegment, gapSegment}
-use Rattle.rows.proofs.Turns.{phase-holds, gap-holds, mark-holds, events-room, Goes, ends, phases, gaps, anew, none, goes}
+use Rattle.rows.specs.Rows.{Seen, Row, fromAt, toAt, countAt, behindPhase, behindGap, behindMark, enough, left, phaseSeen, gapSeen}
+use Rattle.rows.specs.Rows.{goodPhase, goodGap, goodSegment, goodMark, goodEvents, goodFrom, goodAt, eventsFrom, segmentsFrom, segmentsAt, markFrom, rowsFrom}
+use Rattle.rows.specs.Telling.{phaseSegment, gapSegment, segmentOf, spanOf, endOf, goodOn, markAt, rowsAt}
+use Rattle.rows.specs.declared.Segment.{Segment}
+use Rattle.rows.proofs.Turns.{phase-holds, gap-holds, mark-holds, within, phase-on, gap-on}
 
 module _ (s : List ℕ) where
   -- ---- with enough looks it does not matter how many
@@ -33,6 +33,32 @@ module _ (s : List ℕ) where
   unfolding rowsFrom
   rows-past zero at h = refl
   rows-past (suc n) at h = simp (le-leb (length s) at h)
+
+  module _ (marks : Bool) where
+    good-past : (n at least : ℕ) → length s < at → goodFrom marks n s at least ≡ false
+    good-past n at least h = go (goodFrom marks n s at least) refl
+      where
+        go : (b : Bool) → goodFrom marks n s at least ≡ b → b ≡ false
+        go true e = absurd (omega (arith, within marks s at least n e))
+        go false e = refl
+
+    good-looks : (n m at least : ℕ) → length s < at + n → length s < at + m → goodFrom marks n s at least ≡ goodFrom marks m s at least
+    unfolding goodFrom
+    good-looks zero m at least h k = sym (good-past m at least (omega arith))
+    good-looks (suc n) zero at least h k = good-past (suc n) at least (omega arith)
+    good-looks (suc n) (suc m) at least h k =
+        rw (
+          good-looks n m (behindPhase s at) (toAt s at) (omega arith) (omega arith),
+          good-looks n m (behindGap at) (toAt s at) (omega arith) (omega arith),
+          good-looks n m (behindMark at) 0 (omega arith) (omega arith),
+        )
+
+    -- with one look taken
+    pub good-look : (at least : ℕ) → at ≤ length s → goodAt marks s at least ≡ goodFrom marks (enough s) s at least
+    good-look at least h = good-looks (left s at) (enough s) at least (omega arith) (omega arith)
+
+    pub good-left : (at least b l : ℕ) → at < b → goodFrom marks (length s) s b l ≡ goodAt marks s b l
+    good-left at least b l h = good-looks (length s) (left s b) b l (omega arith) (omega arith)
 
   segments-looks : (n m at : ℕ) → length s < at + n → length s < at + m → segmentsFrom n s at ≡ segmentsFrom m s at
   unfolding segmentsFrom
@@ -81,14 +107,14 @@ module _ (s : List ℕ) where
 
   module _ (at : ℕ) where
     module _ (e : at ≡ length s) where
-      pub ended : Ended s at
-      ended =
-          record {
-            end = e;
-            segments = segments-past (left s at) at (omega arith);
-            next = mark-past (left s at) at (omega arith) ∙ sym e;
-            rows = rows-past (left s at) at (omega arith);
-          }
+      pub segments-end : segmentsAt s at ≡ []
+      segments-end = segments-past (left s at) at (omega arith)
+
+      pub mark-end : markAt s at ≡ at
+      mark-end = mark-past (left s at) at (omega arith) ∙ sym e
+
+      pub rows-end : rowsAt s at ≡ []
+      rows-end = rows-past (left s at) at (omega arith)
 
     module _ (h : at < length s) (i : number kind s at ≡ 16) where
       pub segments-phase : segmentsAt s at ≡ phaseSeen s at ∷ segmentsAt s (behindPhase s at)
@@ -141,105 +167,89 @@ module _ (s : List ℕ) where
         rows-looks (left s at) (enough s) at (omega arith) (omega arith)
         ∙ simp (lt-leb (length s) at h) (ap (λ (t : List Row). rowAt ∷ t) (rows-looks (length s) (left s p) p (omega arith) (omega arith)))
 
-    -- ---- what the three readings tell
+-- ---- a segment, and what follows it
 
-    module _ (marks : Bool) (n : ℕ) where
-      pub phase-stands : goodPhase s at ≡ true → goodEvents s (at + 105) (countAt s at) ≡ true → goodFrom marks n s (behindPhase s at) (toAt s at) ≡ true
-          → Stands s at (phaseSegment s at)
-      phase-stands p v g =
-          let f = phase-holds s at p in
-          let h : at < length s = omega (arith, f .whole) in
-          record {
-            segments = segments-phase h (f .kind);
-            next = mark-phase h (f .kind);
-            shown = record { good = p; events = v; listed = f .listed; exact = refl; reach = refl };
-            forward = f .forward;
-            after = omega arith;
-            inside = events-room s (at + 105) (countAt s at) (f .whole) v;
-            on = record { marks = marks; looks = n; least = toAt s at; good = g };
-          }
+module _ (s : List ℕ) (at : ℕ) where
+  pub record Holds (g : Segment) : Type 0 where
+    pub after : at < g .behind
+    pub inside : g .behind ≤ length s
+    pub starts : g .from .0 ≡ fromAt s at
+    pub forward : g .from .0 < g .to .0
+    pub segments : segmentsAt s at ≡ spanOf s g ∷ segmentsAt s (endOf g)
+    pub next : markAt s at ≡ markAt s (endOf g)
+    pub good : (marks : Bool) (least : ℕ) → least ≤ fromAt s at → goodAt marks s at least ≡ goodOn marks s (g .behind) (g .to .0) (g .events)
 
-      pub gap-stands : goodGap s at ≡ true → goodFrom marks n s (behindGap at) (toAt s at) ≡ true → Stands s at (gapSegment s at)
-      gap-stands p g =
-          let f = gap-holds s at p in
-          let h : at < length s = omega (arith, f .whole) in
-          record {
-            segments = segments-gap h (f .kind);
-            next = mark-gap h (f .kind);
-            shown = record { good = p; reach = refl };
-            forward = f .forward;
-            after = omega arith;
-            inside = f .whole;
-            on = record { marks = marks; looks = n; least = toAt s at; good = g };
-          }
+  holds-phase : goodPhase s at ≡ true → Holds (phaseSegment s at)
+  holds-phase p =
+      let f = phase-holds s at p in
+      let h : at < length s = omega (arith, f .whole) in
+      record {
+        after = omega arith;
+        inside = f .whole;
+        starts = refl;
+        forward = f .forward;
+        segments = segments-phase s at h (f .kind);
+        next = mark-phase s at h (f .kind);
+        good = λ marks least l.
+            good-look s marks at least (omega arith) ∙ phase-on marks s at least h p l (length s)
+            ∙ ap (λ (b : Bool). goodEvents s (at + 105) (countAt s at) && b) (good-left s marks at least (behindPhase s at) (toAt s at) (omega arith));
+      }
 
-      pub mark-stands : goodMark s at ≡ true → goodFrom marks n s (behindMark at) 0 ≡ true → Marked s at (number Forms.markRow s at) (behindMark at)
-      mark-stands m g =
-          let f = mark-holds s at m in
-          let h : at < length s = omega (arith, f .0) in
-          record {
-            good = m;
-            row = refl;
-            behind = refl;
-            inside = f .0;
-            segments = segments-mark h (f .1);
-            next = mark-mark h (f .1);
-            rows = rows-mark h;
-            on = record { marks = marks; looks = n; least = 0; good = g };
-          }
+  holds-gap : goodPhase s at ≡ false → goodGap s at ≡ true → Holds (gapSegment s at)
+  unfolding eventsFrom goodEvents
+  holds-gap p g =
+      let f = gap-holds s at g in
+      let h : at < length s = omega (arith, f .whole) in
+      let z : behindGap at + 35 * 0 ≡ behindGap at = omega arith in
+      record {
+        after = omega arith;
+        inside = f .whole;
+        starts = refl;
+        forward = f .forward;
+        segments = rw z (segments-gap s at h (f .kind));
+        next = rw z (mark-gap s at h (f .kind));
+        good = λ marks least l. rw z
+            (good-look s marks at least (omega arith) ∙ gap-on marks s at least h p g l (length s) ∙ good-left s marks at least (behindGap at) (toAt s at) (omega arith));
+      }
 
--- ---- by the kind that is read
-
-pub data Found (s : List ℕ) (at : ℕ) : Type 0 where
-  phase : number kind s at ≡ 16 → Stands s at (phaseSegment s at) → Found s at
-  gap : number kind s at ≡ 17 → at + 37 ≤ length s → Stands s at (gapSegment s at) → Found s at
-  mark : number kind s at ≡ 21 → Marked s at (number Forms.markRow s at) (behindMark at) → Found s at
-
-module _ (s : List ℕ) (at : ℕ) (h : Here s at) (o : at ≡ length s → ⊥) where
-  found : Found s at
-  found = go (h .looks) (h .good)
+  -- the fields that both kinds have lie in the bytes
+  pub segment-room : goodSegment s at ≡ true → at + 37 ≤ length s
+  segment-room e = go (goodPhase s at) refl e
     where
-      m : Bool
-      m = h .marks
+      go : (b : Bool) → goodPhase s at ≡ b → (b || goodGap s at) ≡ true → at + 37 ≤ length s
+      go true i e = omega (arith, phase-holds s at i .whole)
+      go false i e = gap-holds s at e .whole
 
-      by : (n : ℕ) → Goes m n s at (h .least) → Found s at
-      by n (ends e) = absurd (o e)
-      by n (phases p l v g) = phase (phase-holds s at p .kind) (phase-stands s at m n p v g)
-      by n (gaps p l g) = gap (gap-holds s at p .kind) (gap-holds s at p .whole) (gap-stands s at m n p g)
-      by n (anew e p g) = mark (mark-holds s at p .1) (mark-stands s at m n p g)
-
-      go : (n : ℕ) → goodFrom m n s at (h .least) ≡ true → Found s at
-      go zero g = absurd (none m s at (h .least) g)
-      go (suc n) g = by n (goes m s at (h .least) n g)
-
-  pub room : at + 6 ≤ length s
-  room = go found
+  -- and it is no mark
+  pub no-mark : goodSegment s at ≡ true → goodMark s at ≡ false
+  no-mark e = go (goodPhase s at) (goodMark s at) refl refl e
     where
-      go : Found s at → at + 6 ≤ length s
-      go (phase e t) = omega (arith, t .inside)
-      go (gap e w t) = omega arith
-      go (mark e t) = t .inside
+      go : (b m : Bool) → goodPhase s at ≡ b → goodMark s at ≡ m → (b || goodGap s at) ≡ true → m ≡ false
+      go b false i j e = refl
+      go true true i j e = absurd (omega (arith, phase-holds s at i .kind, mark-holds s at j .1))
+      go false true i j e = absurd (omega (arith, gap-holds s at e .kind, mark-holds s at j .1))
 
-  pub here-phase : number kind s at ≡ 16 → Stands s at (phaseSegment s at)
-  here-phase i = go found
+  pub no-segment : goodMark s at ≡ true → (goodPhase s at ≡ false) × (goodGap s at ≡ false)
+  no-segment m = (go (goodPhase s at) refl, on (goodGap s at) refl)
     where
-      go : Found s at → Stands s at (phaseSegment s at)
-      go (phase e t) = t
-      go (gap e w t) = absurd (omega arith)
-      go (mark e t) = absurd (omega arith)
+      go : (b : Bool) → goodPhase s at ≡ b → b ≡ false
+      go true i = absurd (omega (arith, phase-holds s at i .kind, mark-holds s at m .1))
+      go false i = refl
 
-  pub here-gap : number kind s at ≡ 17 → Stands s at (gapSegment s at)
-  here-gap i = go found
-    where
-      go : Found s at → Stands s at (gapSegment s at)
-      go (phase e t) = absurd (omega arith)
-      go (gap e w t) = t
-      go (mark e t) = absurd (omega arith)
+      on : (b : Bool) → goodGap s at ≡ b → b ≡ false
+      on true i = absurd (omega (arith, gap-holds s at i .kind, mark-holds s at m .1))
+      on false i = refl
 
-  pub here-mark : (number kind s at ≡ 16 → ⊥) → (number kind s at ≡ 17 → ⊥) → Marked s at (number Forms.markRow s at) (behindMark at)
-  here-mark a b = go found
+  pub phase-room : goodSegment s at ≡ true → number kind s at ≡ 16 → at + 105 ≤ length s
+  phase-room e k = go (goodPhase s at) refl e
     where
-      go : Found s at → Marked s at (number Forms.markRow s at) (behindMark at)
-      go (phase e t) = absurd (a e)
-      go (gap e w t) = absurd (b e)
-      go (mark e t) = t
+      go : (b : Bool) → goodPhase s at ≡ b → (b || goodGap s at) ≡ true → at + 105 ≤ length s
+      go true i e = phase-holds s at i .whole
+      go false i e = absurd (omega (arith, k, gap-holds s at e .kind))
+
+  pub holds : goodSegment s at ≡ true → Holds (segmentOf s at)
+  holds e = go (goodPhase s at) refl e
+    where
+      go : (b : Bool) → goodPhase s at ≡ b → (b || goodGap s at) ≡ true → Holds (segmentOf s at)
+      go true i e = rw (eq-eqb (number kind s at) 16 (phase-holds s at i .kind)) (holds-phase i)
+      go false i e = rw (ne-eqb (number kind s at) 16 (λ z. omega (arith, gap-holds s at e .kind))) (holds-gap i e)

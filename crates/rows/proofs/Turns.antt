@@ -109,6 +109,16 @@ module _ (marks : Bool) (s : List ℕ) (at least : ℕ) where
       go false false false true i j k l e = let x = and-true marks (goodMark s at) l in anew (x .0) (x .1) e
       go false false false false i j k l e = absurd (untrue e)
 
+  pub within : (n : ℕ) → goodFrom marks n s at least ≡ true → at ≤ length s
+  within zero e = absurd (none e)
+  within (suc n) e = go (goes n e)
+    where
+      go : Goes marks n s at least → at ≤ length s
+      go (ends i) = omega arith
+      go (phases p l v f) = omega (arith, phase-holds s at p .whole)
+      go (gaps p l f) = omega (arith, gap-holds s at p .whole)
+      go (anew i p f) = omega (arith, mark-holds s at p .0)
+
   pub at-end : (n : ℕ) → at ≡ length s → goodFrom marks (suc n) s at least ≡ true
   unfolding goodFrom
   at-end n e = rw (eq-eqb at (length s) e)
@@ -122,15 +132,10 @@ module _ (marks : Bool) (s : List ℕ) (at least : ℕ) where
       unfolding goodFrom
       phase-early l n = simp (inner, p, lt-leb least (fromAt s at) l)
 
-      module _ (l : least ≤ fromAt s at) where
-        pub phase-miscounted : goodEvents s (at + 105) (countAt s at) ≡ false → (n : ℕ) → goodFrom marks (suc n) s at least ≡ false
-        unfolding goodFrom
-        phase-miscounted v n = simp (inner, p, le-leb least (fromAt s at) l, v)
-
-        pub phase-on : goodEvents s (at + 105) (countAt s at) ≡ true
-            → (n : ℕ) → goodFrom marks (suc n) s at least ≡ goodFrom marks n s (behindPhase s at) (toAt s at)
-        unfolding goodFrom
-        phase-on v n = simp (inner, p, le-leb least (fromAt s at) l, v)
+      pub phase-on : least ≤ fromAt s at
+          → (n : ℕ) → goodFrom marks (suc n) s at least ≡ (goodEvents s (at + 105) (countAt s at) && goodFrom marks n s (behindPhase s at) (toAt s at))
+      unfolding goodFrom
+      phase-on l n = simp (inner, p, le-leb least (fromAt s at) l)
 
     module _ (p : goodPhase s at ≡ false) where
       module _ (g : goodGap s at ≡ true) where

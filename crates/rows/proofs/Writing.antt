@@ -24,7 +24,7 @@ use Rattle.rows.specs.Rows.{Event, placedAt, fromAt, toAt, countAt, fram
 use Rattle.rows.specs.Rows.{goodPhase, goodGap, goodEvent, goodEvents, goodFrom, goodRow}
 use Rattle.rows.specs.Written.{instant, GoodPhase, GoodGap, GoodEvent, Owing, RowFrom, eventSaid, eventsOf, seenOf}
 use Rattle.rows.proofs.Turns.{phase-holds, gap-holds, at-end, phase-on, gap-on}
-use Rattle.rows.proofs.Places.{ended, segments-phase, segments-gap}
+use Rattle.rows.proofs.Places.{segments-end, segments-phase, segments-gap}
 
 both : {a b : Bool} → a ≡ true → b ≡ true → (a && b) ≡ true
 both e f = rw (e, f)
@@ -144,7 +144,7 @@ module _ (s : List ℕ) where
   end-back at q zero least z e h = absurd (omega arith)
   end-back at q (suc n) least z e h =
       let i : q ≡ length s = omega arith in
-      record { events = refl; happened = refl; good = at-end false s q least n i; seen = ended s q i .segments }
+      record { events = refl; happened = refl; good = at-end false s q least n i; seen = segments-end s q i }
 
   phase-back : (p : Forms.Phase) (at n least : ℕ) (fs : List Form) → GoodPhase least p → at + 105 ≤ length s → Says (allFields (phase p)) s at 0
       → Back s (at + 105) (p .events) (at + 105 + 35 * p .events) n (instant (p .end)) fs → Back s at 0 at (suc n) least (phase p ∷ fs)
@@ -158,7 +158,7 @@ module _ (s : List ℕ) where
       record {
         events = refl;
         happened = refl;
-        good = phase-on false s at least l (i .good) o v n ∙ rw (i .to, i .count) (on .good);
+        good = phase-on false s at least l (i .good) o n ∙ both v (rw (i .to, i .count) (on .good));
         seen = segments-phase s at l (t .kind) ∙ rw (i .from, i .to, i .phase, i .evidence, i .count, on .happened, on .seen);
       }
 

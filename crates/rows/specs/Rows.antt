@@ -65,6 +65,10 @@ goodEvent s at = framed 18 33 s at && tagged Forms.eventAt s at
 abbrev pub goodMark : List ℕ → ℕ → Bool
 goodMark s at = framed 21 4 s at
 
+-- a segment: a phase, or a stretch of which nothing is known
+abbrev pub goodSegment : List ℕ → ℕ → Bool
+goodSegment s at = goodPhase s at || goodGap s at
+
 -- n events stand one after the other
 unfoldable pub goodEvents : List ℕ → ℕ → ℕ → Bool
 goodEvents s at zero = true
@@ -97,12 +101,9 @@ goodRow s = goodFrom false (enough s) s 0 0
 unfoldable pub goodRows : List ℕ → Bool
 goodRows s = eqb (length s) 0 || (goodMark s 0 && goodFrom true (enough s) s 0 0)
 
--- the numbers given back
+-- the number given back for a row
 abbrev pub rowRefusal : List ℕ → ℕ
 rowRefusal s = cond (goodRow s) 0 15
-
-abbrev pub rowsRefusal : List ℕ → ℕ
-rowsRefusal s = cond (goodRows s) 0 15
 
 -- ---- what good rows hold
 
@@ -152,6 +153,10 @@ markFrom (suc n) s at =
 abbrev pub left : List ℕ → ℕ → ℕ
 left s at = enough s - at
 
+-- what stands from `at` on is good, however many records there are
+abbrev pub goodAt : Bool → List ℕ → ℕ → ℕ → Bool
+goodAt marks s at least = goodFrom marks (left s at) s at least
+
 abbrev pub segmentsAt : List ℕ → ℕ → List (Span Seen)
 segmentsAt s at = segmentsFrom (left s at) s at
 
@@ -172,12 +177,3 @@ rowsFrom (suc n) s at =
 
 abbrev pub rows : List ℕ → List Row
 rows s = rowsFrom (enough s) s 0
-
--- ---- a place in good bytes
-
--- what stands from `at` on is good
-pub record Here (s : List ℕ) (at : ℕ) : Type 0 where
-  pub marks : Bool
-  pub looks : ℕ
-  pub least : ℕ
-  pub good : goodFrom marks looks s at least ≡ true

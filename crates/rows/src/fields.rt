@@ -31,4 +31,4 @@ pub(crate) const EVENT_TAG: usize = 14;
 // A mark.
 pub(crate) const ROW: usize = 4;
 
-pub(crate) const MARK_BYTES: usize = 6;
+pub const MARK_BYTES: usize = 6;

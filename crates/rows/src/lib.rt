@@ -1,35 +1,39 @@
-// Rows of a timeline's bytes, as a host kept them: judged, and read segment by segment.
+// Rows of a timeline's bytes, as a host kept them: judged and read record by record.
 
 mod fields;
 mod judge;
 mod reading;
 
+pub use fields::MARK_BYTES;
 pub use judge::good_row;
-pub use judge::good_rows;
+pub use judge::stands_at;
+pub use reading::end_of;
 pub use reading::event_at;
-pub use reading::read_at;
+pub use reading::segment_at;
 use wire::Placed;
 
-// What a segment shows: a phase with its evidence and how many events follow, or that nothing is known.
+// What stands at a place: nothing that may stand there, the end, a row's mark, a segment, or an event of the last phase.
+pub enum Stands {
+    Bad,
+    End,
+    Mark,
+    Segment,
+    Event,
+}
+
+// What a segment shows: a phase with its evidence, or that nothing is known.
 pub enum Shows {
-    Phase(u8, u16, u32),
+    Phase(u8, u16),
     Unknown,
 }
 
-// A segment of a row, and the place behind it and its events. The events of a phase begin 105 bytes behind the segment's place, each 35
-// bytes behind the one before.
+// A segment, how many events follow it, and the place behind it, where the first of them stands.
 pub struct Segment {
     pub from: Placed,
     pub to: Placed,
     pub shows: Shows,
+    pub events: u32,
     pub behind: usize,
-}
-
-// What stands at a place: nothing more, a row's mark (its number and the place behind it), or a segment.
-pub enum Read {
-    End,
-    Mark(u16, usize),
-    Seen(Segment),
 }
 
 pub struct Event {

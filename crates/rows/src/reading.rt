@@ -1,13 +1,11 @@
-// Good rows read segment by segment. The work of one reading does not depend on how many events a segment has.
-ghost use Prim.Native.Nat.{_≤_};
+// What good records say.
+ghost use Prim.Native.Nat.{_^_, _<_};
 ghost use mathlib.Core.Path.{_≡_};
-ghost use lib.ListN.{length};
+ghost use mathlib.Core.Bool.{true};
 ghost use Rattle.wire.specs.Fields.{Inside};
-ghost use Rattle.rows.specs.Rows.{Here, behindPhase, eventOf};
-ghost use Rattle.rows.specs.Telling.{Tells};
-ghost use Rattle.rows.specs.Private.{phaseSegment, gapSegment};
+ghost use Rattle.rows.specs.Rows.{goodSegment, eventOf};
+ghost use Rattle.rows.specs.Telling.{segmentOf, endOf};
 use crate::Event;
-use crate::Read;
 use crate::Segment;
 use crate::Shows;
 use crate::fields::*;
@@ -20,50 +18,41 @@ use wire::get2;
 use wire::get4;
 use wire::signed8;
 
-fn phase_at(bytes: &[u8], at: usize) -> Segment
-    requires { ⌜ Inside at 105 (now bytes) × (behindPhase (now bytes) at ≤ length (now bytes)) ⌝ }
-    ensures { λ r. ⌜ r ≡ phaseSegment (now (bytes .entry)) at ⌝ }
-{
-    let from = signed8(bytes, at + START);
-    let to = signed8(bytes, at + END);
-    let phase = get1(bytes, at + PHASE);
-    let evidence = get2(bytes, at + EVIDENCE);
-    let n = get4(bytes, at + COUNT);
-    Segment {
-        from: from,
-        to: to,
-        shows: Shows::Phase(phase, evidence, n),
-        behind: at + PHASE_BYTES + EVENT_BYTES * n as usize,
-    }
-}
+const PHASE_KIND: u16 = 16;
 
-fn gap_at(bytes: &[u8], at: usize) -> Segment
-    requires { ⌜ Inside at 37 (now bytes) ⌝ }
-    ensures { λ r. ⌜ r ≡ gapSegment (now (bytes .entry)) at ⌝ }
+// The segment that stands at a place.
+pub fn segment_at(bytes: &[u8], at: usize) -> Segment
+    requires { ⌜ goodSegment (now bytes) at ≡ true ⌝ }
+    ensures { λ r. ⌜ r ≡ segmentOf (now (bytes .entry)) at ⌝ }
 {
     let from = signed8(bytes, at + START);
     let to = signed8(bytes, at + END);
+    if get2(bytes, at + KIND) == PHASE_KIND {
+        let phase = get1(bytes, at + PHASE);
+        let evidence = get2(bytes, at + EVIDENCE);
+        return Segment {
+            from,
+            to,
+            shows: Shows::Phase(phase, evidence),
+            events: get4(bytes, at + COUNT),
+            behind: at + PHASE_BYTES,
+        };
+    }
     Segment {
-        from: from,
-        to: to,
+        from,
+        to,
         shows: Shows::Unknown,
+        events: 0,
         behind: at + GAP_BYTES,
     }
 }
 
-// What stands at a place of good rows.
-pub fn read_at(bytes: &[u8], at: usize) -> Read
-    requires { ⌜ Here (now bytes) at ⌝ }
-    ensures { λ r. ⌜ Tells (now (bytes .entry)) at r ⌝ }
+// The place behind a segment's events.
+pub fn end_of(g: Segment) -> usize
+    requires { ⌜ endOf g < 2 ^ 64 ⌝ }
+    ensures { λ r. ⌜ r ≡ endOf g ⌝ }
 {
-    if at == bytes.len() {
-        return Read::End;
-    }
-    match get2(bytes, at + KIND) {
-        16 => Read::Seen(phase_at(bytes, at)),
-        17 => Read::Seen(gap_at(bytes, at)),
-        _ => Read::Mark(get2(bytes, at + ROW), at + MARK_BYTES),
-    }
+    g.behind + EVENT_BYTES * g.events as usize
 }
 
 // The event that stands at a place.

@@ -17,7 +17,7 @@ returns c =
     let at-phase-glyph = c in
     let at-shows = at-phase-glyph .before .before in
     let at-start = at-shows .before .before in
-    glyph-phase (at-start .args .shows) _ _ _ _ ((at-shows .shows .given .1)) (at-phase-glyph .phase-glyph .ensures)
+    glyph-phase (at-start .args .shows) _ _ _ ((at-shows .shows .given .1)) (at-phase-glyph .phase-glyph .ensures)
 
 returns-2 : tie.Need-returns-2
 returns-2 c = search needs

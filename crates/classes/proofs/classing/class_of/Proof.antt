@@ -16,7 +16,7 @@ returns c =
     let at-is-trading = at-if1 .before in
     let at-shows = at-is-trading .before .before in
     let at-start = at-shows .before .before in
-    class-phase (at-start .args .shows) _ _ _ ((at-shows .shows .given .1)) _ (sym (at-if1 .if1 .taken) ∙ (at-is-trading .is-trading .ensures))
+    class-phase (at-start .args .shows) _ _ ((at-shows .shows .given .1)) _ (sym (at-if1 .if1 .taken) ∙ (at-is-trading .is-trading .ensures))
 
 enum-told : tie.Need-enum-told
 enum-told c = search needs
@@ -27,7 +27,7 @@ returns-2 c =
     let at-is-trading = at-if1 .before in
     let at-shows = at-is-trading .before .before in
     let at-start = at-shows .before .before in
-    class-phase (at-start .args .shows) _ _ _ ((at-shows .shows .given .1)) _ (sym (at-if1 .if1 .left) ∙ (at-is-trading .is-trading .ensures))
+    class-phase (at-start .args .shows) _ _ ((at-shows .shows .given .1)) _ (sym (at-if1 .if1 .left) ∙ (at-is-trading .is-trading .ensures))
 
 returns-3 : tie.Need-returns-3
 returns-3 c = search needs

@@ -1,7 +1,6 @@
 use Rattle.listing.proofs.Bounds.{row-fits}
 use Rattle.listing.proofs.Writing.{front, rest, both}
 use Rattle.listing.specs.Listing.{allLines}
-use Rattle.rows.proofs.Laws.{here-row}
 use Rattle.rows.specs.Rows.{segments}
 use native.Mathlib.Omega.{arith}
 use borrow.Author.Needs.{needs}
@@ -11,7 +10,7 @@ use Rattle.listing.proofs.ask.put_row.Tie as tie
 count-requires : tie.Need-count-requires
 count-requires c κs =
     let at-start = c .before .before .before in
-    here-row ((at-start .args .answer .now)) ((at-start .pre) .0)
+    at-start .pre .0
 
 put-head-requires : tie.Need-put-head-requires
 put-head-requires c κs =
@@ -28,7 +27,7 @@ put-all-requires c κs =
     let at-count = at-put-head .before in
     let at-shared-slice-known = at-count .before .before .before in
     let at-start = at-shared-slice-known .before in (
-      here-row (at-start .args .answer .now) (at-start .pre .0),
+      (at-start .pre .0),
       rest (row-fits (at-start .args .answer .now)
           (λ k. omega (arith, (at-shared-slice-known .shared-slice-known .given) k)) (at-start .args .out .now) (at-start .pre .0) (at-start .pre .1)
           (at-start .pre .2)) (rw (at-count .count .ensures) at (at-put-head .put-head .ensures)),

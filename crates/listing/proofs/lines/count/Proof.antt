@@ -1,92 +1,81 @@
-use Rattle.listing.proofs.Reading.{stands, over, before-mark, Counting, count-none, count-one, count-over}
-use lib.ListN.{length}
-use borrow.Author.Needs.{needs}
-use native.Mathlib.Omega.{arith}
+use Rattle.listing.proofs.Reading.{Counting, count-none, count-one, count-over}
+use Rattle.rows.proofs.Laws.{segmented, end-inside, end-after}
 use Prim.Native.Nat.{_-_}
+use lib.ListN.{length}
+use native.Mathlib.Omega.{arith}
 use Rattle.listing.proofs.lines.count.Statement.{statement}
 use Rattle.listing.proofs.lines.count.Tie as tie
 
-abbrev Inv-row : tie.InvT-row
-Inv-row answer at₀ seen₀ at seen = Counting answer at seen
+abbrev Inv-loop : tie.InvT-loop
+Inv-loop answer at₀ seen₀ at seen = Counting answer at seen
 
-abbrev μ-row : tie.MeasureT-row
-μ-row answer at₀ seen₀ at seen = length answer - at
+abbrev μ-loop : tie.MeasureT-loop
+μ-loop answer at₀ seen₀ at seen = length answer - at
 
-row-holds : tie.Need-row-holds Inv-row μ-row
-row-holds c =
+loop-holds : tie.Need-loop-holds Inv-loop μ-loop
+loop-holds c =
     let at-start = c .before in
     count-none (at-start .pre)
 
-read-at-requires : tie.Need-read-at-requires Inv-row μ-row
-read-at-requires c κs =
-    let at-row = c in
-    (at-row .row .inv) .here
+segment-at-requires : tie.Need-segment-at-requires Inv-loop μ-loop
+segment-at-requires c κs =
+    let at-loop-test = c in
+    let at-loop = at-loop-test .before in
+    let at-start = at-loop .before .before in
+    (segmented (at-start .args .answer .now) (at-loop .loop .at) ((at-loop .loop .inv) .here) (at-loop-test .loop-test .taken)) .segment
 
-enum-known-g : tie.Need-enum-known-g Inv-row μ-row
-enum-known-g c = search needs
-
-add-seen : tie.Need-add-seen Inv-row μ-row
+add-seen : tie.Need-add-seen Inv-loop μ-loop
 add-seen c =
-    let at-g = c .before in
-    let at-read-at = at-g .before .before in
-    let at-row = at-read-at .before in
-    let at-start = at-row .before .before in
-    let stood = stands (at-start .args .answer .now) (at-row .row .at) (at-read-at .read-at .ensures) (at-g .g .given .1) in
-    omega (arith, (at-row .row .inv .few), stood .after, stood .inside)
+    let at-segment-at = c in
+    let at-loop-test = at-segment-at .before in
+    let at-loop = at-loop-test .before in
+    let at-shared-slice-known = at-loop .before in
+    let at-start = at-shared-slice-known .before in
+    omega (arith, ((at-loop .loop .inv) .few), end-inside (segmented (at-start .args .answer .now) (at-loop .loop .at) ((at-loop .loop .inv) .here) (at-loop-test .loop-test .taken)) (at-segment-at .segment-at .ensures), end-after (segmented (at-start .args .answer .now) (at-loop .loop .at) ((at-loop .loop .inv) .here) (at-loop-test .loop-test .taken)) (at-segment-at .segment-at .ensures), (at-shared-slice-known .shared-slice-known .given) (length (at-start .args .answer .now)))
 
-row-less : tie.Need-row-less Inv-row μ-row
-row-less c =
-    let at-g = c .before in
-    let at-read-at = at-g .before .before in
-    let at-row = at-read-at .before in
-    let at-start = at-row .before .before in
-    let stood = stands (at-start .args .answer .now) (at-row .row .at) (at-read-at .read-at .ensures) (at-g .g .given .1) in
-    omega (arith, stood .after, stood .inside)
+end-of-requires : tie.Need-end-of-requires Inv-loop μ-loop
+end-of-requires c κs =
+    let at-segment-at = c in
+    let at-loop-test = at-segment-at .before in
+    let at-loop = at-loop-test .before in
+    let at-shared-slice-known = at-loop .before in
+    let at-start = at-shared-slice-known .before in
+    omega (arith, end-inside (segmented (at-start .args .answer .now) (at-loop .loop .at) ((at-loop .loop .inv) .here) (at-loop-test .loop-test .taken)) (at-segment-at .segment-at .ensures), (at-shared-slice-known .shared-slice-known .given) (length (at-start .args .answer .now)))
 
-row-again : tie.Need-row-again Inv-row μ-row
-row-again c =
-    let at-g = c .before in
-    let at-read-at = at-g .before .before in
-    let at-row = at-read-at .before in
-    let at-start = at-row .before .before in
-    count-one (at-row .row .inv) (stands ((at-start .args .answer .now)) (at-row .row .at) (at-read-at .read-at .ensures) ((at-g .g .given) .1))
+loop-less : tie.Need-loop-less Inv-loop μ-loop
+loop-less c =
+    let at-end-of = c in
+    let at-segment-at = at-end-of .before in
+    let at-loop-test = at-segment-at .before in
+    let at-loop = at-loop-test .before in
+    let at-start = at-loop .before .before in
+    omega (arith, end-inside (segmented (at-start .args .answer .now) (at-loop .loop .at) ((at-loop .loop .inv) .here) (at-loop-test .loop-test .taken)) (at-segment-at .segment-at .ensures), end-after (segmented (at-start .args .answer .now) (at-loop .loop .at) ((at-loop .loop .inv) .here) (at-loop-test .loop-test .taken)) (at-segment-at .segment-at .ensures), (at-end-of .end-of .ensures))
 
-enum-told : tie.Need-enum-told Inv-row μ-row
-enum-told c = search needs
+loop-again : tie.Need-loop-again Inv-loop μ-loop
+loop-again c =
+    let at-end-of = c in
+    let at-segment-at = at-end-of .before in
+    let at-loop-test = at-segment-at .before in
+    let at-loop = at-loop-test .before in
+    let at-start = at-loop .before .before in
+    rw (at-end-of .end-of .ensures) (count-one (at-loop .loop .inv) (segmented (at-start .args .answer .now) (at-loop .loop .at) ((at-loop .loop .inv) .here) (at-loop-test .loop-test .taken)) (at-segment-at .segment-at .ensures))
 
-enum-told-2 : tie.Need-enum-told-2 Inv-row μ-row
-enum-told-2 c = search needs
-
-returns : tie.Need-returns Inv-row μ-row
+returns : tie.Need-returns Inv-loop μ-loop
 returns c =
-    let at-enum-told = c in
-    let at-read-at = at-enum-told .before .before in
-    let at-row = at-read-at .before in
-    let at-start = at-row .before .before in
-    count-over (at-row .row .inv) (over ((at-start .args .answer .now)) (at-row .row .at) (at-read-at .read-at .ensures) ((at-enum-told .enum-told .given) .1))
-
-returns-2 : tie.Need-returns-2 Inv-row μ-row
-returns-2 c =
-    let at-enum-told2 = c in
-    let at-read-at = at-enum-told2 .before .before in
-    let at-row = at-read-at .before in
-    let at-start = at-row .before .before in
-    count-over (at-row .row .inv)
-    (before-mark (at-start .args .answer .now) (at-row .row .at) (at-read-at .read-at .ensures) (at-enum-told2 .enum-told2 .given .1))
+    let at-loop-test = c in
+    let at-loop = at-loop-test .before in
+    count-over (at-loop .loop .inv) (at-loop-test .loop-test .left)
 
 pub count-spec : {M : Type 1} → statement M
 count-spec =
     tie.close
     (tie.spec
-    Inv-row
-    μ-row
-    row-holds
-    read-at-requires
-    enum-known-g
+    Inv-loop
+    μ-loop
+    loop-holds
+    segment-at-requires
     add-seen
-    row-less
-    row-again
-    enum-told
-    enum-told-2
-    returns
-    returns-2)
+    end-of-requires
+    loop-less
+    loop-again
+    returns)

@@ -1,110 +1,92 @@
-use Rattle.listing.proofs.Reading.{stands, over, before-mark, list-one, list-over}
+use Rattle.listing.proofs.Reading.{list-one, list-over}
 use Rattle.listing.proofs.Writing.{Going, begins, fits-next, goes-on}
 use Rattle.listing.specs.Listing.{allLines}
-use Rattle.rows.specs.Rows.{Here, segments, segmentsAt}
-use lib.ListN.{length}
-use borrow.Author.Needs.{needs}
-use native.Mathlib.Omega.{arith}
+use Rattle.rows.proofs.Laws.{InRow, row-in, segmented, end-inside, end-after, row-on}
+use Rattle.rows.specs.Telling.{endOf}
+use Rattle.rows.specs.Rows.{segments, segmentsAt}
 use Prim.Native.Nat.{_-_}
+use lib.ListN.{length}
+use native.Mathlib.Omega.{arith}
 use Rattle.listing.proofs.lines.put_all.Statement.{statement}
 use Rattle.listing.proofs.lines.put_all.Tie as tie
 
-abbrev Inv-row : tie.InvT-row
-Inv-row answer out₀ at from₀ place₀ out from place = Here answer from × Going out₀ at (allLines (segments answer)) (allLines (segmentsAt answer from)) out place
+abbrev Inv-loop : tie.InvT-loop
+Inv-loop answer out₀ at from₀ place₀ out from place = InRow answer from × Going out₀ at (allLines (segments answer)) (allLines (segmentsAt answer from)) out place
 
-abbrev μ-row : tie.MeasureT-row
-μ-row answer out₀ at from₀ place₀ out from place = length answer - from
+abbrev μ-loop : tie.MeasureT-loop
+μ-loop answer out₀ at from₀ place₀ out from place = length answer - from
 
-row-holds : tie.Need-row-holds Inv-row μ-row
-row-holds c =
+loop-holds : tie.Need-loop-holds Inv-loop μ-loop
+loop-holds c =
     let at-start = c .before .before in
-    ((at-start .pre) .0, begins _ (at-start .args .at) _ ((at-start .pre) .1))
+    (row-in (at-start .args .answer .now) ((at-start .pre) .0), begins _ (at-start .args .at) _ ((at-start .pre) .1))
 
-read-at-requires : tie.Need-read-at-requires Inv-row μ-row
-read-at-requires c κs =
-    let at-row = c in
-    (at-row .row .inv) .0
+segment-at-requires : tie.Need-segment-at-requires Inv-loop μ-loop
+segment-at-requires c κs =
+    let at-loop-test = c in
+    let at-loop = at-loop-test .before in
+    let at-start = at-loop .before .before .before in
+    (segmented (at-start .args .answer .now) (at-loop .loop .from) ((at-loop .loop .inv) .0) (at-loop-test .loop-test .taken)) .segment
 
-enum-known-g : tie.Need-enum-known-g Inv-row μ-row
-enum-known-g c = search needs
-
-put-segment-requires : tie.Need-put-segment-requires Inv-row μ-row
+put-segment-requires : tie.Need-put-segment-requires Inv-loop μ-loop
 put-segment-requires c κs =
-    let at-g = c .before .before in
-    let at-read-at = at-g .before .before in
-    let at-row = at-read-at .before in
-    let at-start = at-row .before .before .before in
-    let stood = stands (at-start .args .answer .now) (at-row .row .from) (at-read-at .read-at .ensures) (at-g .g .given .1) in
-    (stood, fits-next (allLines (segmentsAt (at-start .args .answer .now) (at-g .g .given .0 .0 .behind))) (list-one (at-row .row .inv .1) stood))
+    let at-segment-at = c .before in
+    let at-loop-test = at-segment-at .before in
+    let at-loop = at-loop-test .before in
+    let at-start = at-loop .before .before .before in
+    (end-inside (segmented (at-start .args .answer .now) (at-loop .loop .from) ((at-loop .loop .inv) .0) (at-loop-test .loop-test .taken)) (at-segment-at .segment-at .ensures), fits-next (allLines (segmentsAt (at-start .args .answer .now) (endOf (at-segment-at .segment-at .result)))) (list-one ((at-loop .loop .inv) .1) (segmented (at-start .args .answer .now) (at-loop .loop .from) ((at-loop .loop .inv) .0) (at-loop-test .loop-test .taken)) (at-segment-at .segment-at .ensures)))
 
-row-less : tie.Need-row-less Inv-row μ-row
-row-less c =
-    let at-g = c .before .before .before .before .before in
-    let at-read-at = at-g .before .before in
-    let at-row = at-read-at .before in
-    let at-start = at-row .before .before .before in
-    let stood = stands (at-start .args .answer .now) (at-row .row .from) (at-read-at .read-at .ensures) (at-g .g .given .1) in
-    omega (arith, stood .after, stood .inside)
+end-of-requires : tie.Need-end-of-requires Inv-loop μ-loop
+end-of-requires c κs =
+    let at-segment-at = c .before .before .before .before in
+    let at-loop-test = at-segment-at .before in
+    let at-loop = at-loop-test .before in
+    let at-shared-slice-known = at-loop .before .before in
+    let at-start = at-shared-slice-known .before in
+    omega (arith, end-inside (segmented (at-start .args .answer .now) (at-loop .loop .from) ((at-loop .loop .inv) .0) (at-loop-test .loop-test .taken)) (at-segment-at .segment-at .ensures), (at-shared-slice-known .shared-slice-known .given) (length (at-start .args .answer .now)))
 
-row-again : tie.Need-row-again Inv-row μ-row
-row-again c =
-    let at-put-segment = c .before .before in
-    let at-g = at-put-segment .before .before .before in
-    let at-read-at = at-g .before .before in
-    let at-row = at-read-at .before in
-    let at-start = at-row .before .before .before in
-    let stood = stands (at-start .args .answer .now) (at-row .row .from) (at-read-at .read-at .ensures) (at-g .g .given .1) in
-    (stood .on, goes-on (list-one (at-row .row .inv .1) stood) (at-put-segment .put-segment .ensures))
+loop-less : tie.Need-loop-less Inv-loop μ-loop
+loop-less c =
+    let at-end-of = c in
+    let at-segment-at = at-end-of .before .before .before .before .before in
+    let at-loop-test = at-segment-at .before in
+    let at-loop = at-loop-test .before in
+    let at-start = at-loop .before .before .before in
+    omega (arith, end-inside (segmented (at-start .args .answer .now) (at-loop .loop .from) ((at-loop .loop .inv) .0) (at-loop-test .loop-test .taken)) (at-segment-at .segment-at .ensures), end-after (segmented (at-start .args .answer .now) (at-loop .loop .from) ((at-loop .loop .inv) .0) (at-loop-test .loop-test .taken)) (at-segment-at .segment-at .ensures), (at-end-of .end-of .ensures))
 
-enum-told : tie.Need-enum-told Inv-row μ-row
-enum-told c = search needs
+loop-again : tie.Need-loop-again Inv-loop μ-loop
+loop-again c =
+    let at-end-of = c in
+    let at-put-segment = at-end-of .before .before .before in
+    let at-segment-at = at-put-segment .before .before in
+    let at-loop-test = at-segment-at .before in
+    let at-loop = at-loop-test .before in
+    let at-start = at-loop .before .before .before in
+    rw (at-end-of .end-of .ensures) (row-on (segmented (at-start .args .answer .now) (at-loop .loop .from) ((at-loop .loop .inv) .0) (at-loop-test .loop-test .taken)) (at-segment-at .segment-at .ensures), goes-on (list-one ((at-loop .loop .inv) .1) (segmented (at-start .args .answer .now) (at-loop .loop .from) ((at-loop .loop .inv) .0) (at-loop-test .loop-test .taken)) (at-segment-at .segment-at .ensures)) (at-put-segment .put-segment .ensures))
 
-enum-told-2 : tie.Need-enum-told-2 Inv-row μ-row
-enum-told-2 c = search needs
-
-same-length : tie.Need-same-length Inv-row μ-row
+same-length : tie.Need-same-length Inv-loop μ-loop
 same-length c =
-    let at-row = c .before .before .before in
-    (at-row .row .inv) .1 .put .kept
+    let at-loop = c .before in
+    (at-loop .loop .inv) .1 .put .kept
 
-returns : tie.Need-returns Inv-row μ-row
+returns : tie.Need-returns Inv-loop μ-loop
 returns c =
-    let at-enum-told = c in
-    let at-read-at = at-enum-told .before .before in
-    let at-row = at-read-at .before in
-    let at-start = at-row .before .before .before in
-    list-over (at-start .args .answer .now) (at-row .row .from) (at-row .row .inv .1)
-    (over (at-start .args .answer .now) (at-row .row .from) (at-read-at .read-at .ensures) (at-enum-told .enum-told .given .1))
-
-same-length-2 : tie.Need-same-length-2 Inv-row μ-row
-same-length-2 c =
-    let at-row = c .before .before .before in
-    (at-row .row .inv) .1 .put .kept
-
-returns-2 : tie.Need-returns-2 Inv-row μ-row
-returns-2 c =
-    let at-enum-told2 = c in
-    let at-read-at = at-enum-told2 .before .before in
-    let at-row = at-read-at .before in
-    let at-start = at-row .before .before .before in
-    list-over (at-start .args .answer .now) (at-row .row .from) (at-row .row .inv .1)
-    (before-mark (at-start .args .answer .now) (at-row .row .from) (at-read-at .read-at .ensures) (at-enum-told2 .enum-told2 .given .1))
+    let at-loop-test = c in
+    let at-loop = at-loop-test .before in
+    let at-start = at-loop .before .before .before in
+    list-over (at-start .args .answer .now) (at-loop .loop .from) ((at-loop .loop .inv) .1) (at-loop-test .loop-test .left)
 
 pub put-all-spec : {M : Type 1} → statement M
 put-all-spec =
     tie.close
     (tie.spec
-    Inv-row
-    μ-row
-    row-holds
-    read-at-requires
-    enum-known-g
+    Inv-loop
+    μ-loop
+    loop-holds
+    segment-at-requires
     put-segment-requires
-    row-less
-    row-again
-    enum-told
-    enum-told-2
+    end-of-requires
+    loop-less
+    loop-again
     same-length
-    returns
-    same-length-2
-    returns-2)
+    returns)
