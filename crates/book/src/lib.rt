@@ -1,9 +1,9 @@
 // A venue's book: accepted or refused.
 
 mod judge;
-mod walk;
+mod verdict;
 
 pub use judge::MOST_EVENTS;
 pub use judge::MOST_RULES;
 pub use judge::MOST_TRANSITIONS;
-pub use walk::check;
+pub use verdict::check;

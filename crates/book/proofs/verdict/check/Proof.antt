@@ -5,8 +5,8 @@ use lib.ListN.{length}
 use Rattle.records.proofs.Frames.{size-by, framed, room2, next2, step-least}
 use Rattle.book.proofs.Items.{looked-none}
 use Rattle.book.proofs.Before.{Looking, item-inside, items-4, item-below, look-on, late-5, falls-6, reversed-7, covers-8, transition-9, on-transition, on-other, Here, start, over, end, stop-2, Known, known, headless-is, head-2, many-is, many-3, fields-4, room-of}
-use Rattle.book.proofs.walk.check.Statement.{statement}
-use Rattle.book.proofs.walk.check.Tie as tie
+use Rattle.book.proofs.verdict.check.Statement.{statement}
+use Rattle.book.proofs.verdict.check.Tie as tie
 
 abbrev Inv-points : tie.InvT-points
 Inv-points book at t next kind n i₀ item₀ least₀ falls₀ i item least falls = Looking book at t kind n i item least falls
