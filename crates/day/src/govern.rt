@@ -27,7 +27,7 @@ fn precedence(code: u8) -> u8
 
 // Whether a mask has the bit of a weekday.
 fn marked(mask: u8, weekday: u8) -> bool
-    requires { ⌜ (mask ≤ 127) × (weekday ≤ 6) ⌝ }
+    requires { ⌜ weekday ≤ 6 ⌝ }
     ensures { λ r. ⌜ r ≡ Governing·marked mask weekday ⌝ }
 {
     (mask >> weekday) % 2 == 1

@@ -1,6 +1,6 @@
 // Joining, as both passes over a walk do it: which spans join, what joined spans become, and how many bytes a joined walk takes.
 ghost use mathlib.Core.Path.{_≡_};
-ghost use Prim.Native.Nat.{_+_, _<_};
+ghost use Prim.Native.Nat.{_+_, _^_, _<_};
 ghost use mathlib.Core.Bool.{cond};
 ghost use Rattle.joining.specs.Amending.{joinsLast, joinedHead};
 ghost use Rattle.joining.specs.declared.Last.the-variants.{Nothing, Shows};
@@ -40,7 +40,7 @@ pub fn last_of(begun: bool, until: Instant, phase: u8, evidence: u16) -> Last
 
 // The record of two spans that join.
 pub fn joined(a: Phase, b: Phase) -> Phase
-    requires { ⌜ a .events + b .events < 4294967296 ⌝ }
+    requires { ⌜ a .events + b .events < 2 ^ 32 ⌝ }
     ensures { λ r. ⌜ r ≡ joinedHead a b ⌝ }
 {
     let start = a.start;

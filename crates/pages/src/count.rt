@@ -1,6 +1,6 @@
 // A row's totals, and how a stretch of the timeline is counted. A row's last total is what lies in no segment: the row begins with all of it
 // there, and each stretch takes its part away.
-ghost use Prim.Native.Nat.{_+_, _-_, _≤_, _<_, min, max};
+ghost use Prim.Native.Nat.{_+_, _-_, _^_, _≤_, _<_, min, max};
 ghost use mathlib.Core.Path.{_≡_};
 ghost use lib.ListN.{getD};
 ghost use Rattle.pages.specs.Pages.{shifted, fresh, Coming, Counted, Ending, Ended, First};
@@ -36,7 +36,7 @@ fn renew(row: &mut [u64; SLOTS], length: u64)
 
 // So much of it lies in segments of one kind.
 fn shift(row: &mut [u64; SLOTS], slot: usize, n: u64)
-    requires { ⌜ (slot < 9) × (n ≤ getD (now row) 9 0) × (getD (now row) slot 0 + n < 18446744073709551616) ⌝ }
+    requires { ⌜ (slot < 9) × (n ≤ getD (now row) 9 0) × (getD (now row) slot 0 + n < 2 ^ 64) ⌝ }
     ensures { λ r. ⌜ now (row .exit) ≡ shifted (now (row .entry)) slot n ⌝ }
 {
     let more = row[slot] + n;

@@ -1,5 +1,5 @@
 // A date's boundaries where the clock is steady: each time of day stands as far behind the date's midnight as it is long.
-ghost use Prim.Native.Nat.{_+_, _<_};
+ghost use Prim.Native.Nat.{_+_, _^_, _<_};
 ghost use lib.ListN.{length};
 ghost use Rattle.zone.specs.Units.{dayNs};
 ghost use Rattle.records.specs.Limits.{base};
@@ -15,7 +15,7 @@ const DAY_NS: u64 = 86_400_000_000_000;
 
 // Stores the instants of the boundaries of a date that begins at `midnight`, by the rule at a place.
 pub(crate) fn steady_boundaries(book: &[u8], rule: u32, midnight: Instant, edges: &mut [u64])
-    requires { ⌜ Listed 3 (now book) rule × (base .points < length (now edges)) × (midnight .0 + dayNs < 18446744073709551616) ⌝ }
+    requires { ⌜ Listed 3 (now book) rule × (base .points < length (now edges)) × (midnight .0 + dayNs < 2 ^ 64) ⌝ }
     ensures { λ r. ⌜ ShiftedIn (ruleAt (now (book .entry)) rule) (midnight .0) (now (edges .entry)) (now (edges .exit)) ⌝ }
 {
     let place = rule as usize;

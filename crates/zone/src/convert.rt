@@ -11,6 +11,7 @@ use crate::Doubt;
 use crate::FIRST_INSTANT;
 use crate::Instant;
 use crate::LAST_INSTANT;
+use crate::MOST_NS;
 use crate::Reading;
 use crate::Resolution;
 use crate::SECOND_NS;
@@ -19,8 +20,6 @@ use crate::search::offset_after;
 use crate::search::offset_at;
 use crate::search::passed;
 use calendar::Day;
-
-const MOST_NS: u64 = 57_600 * SECOND_NS;
 
 const FIRST_READING: u64 = 2 * DAY_NS;
 

@@ -31,6 +31,9 @@ pub(crate) const SECOND_NS: u64 = 1_000_000_000;
 
 pub(crate) const DAY_NS: u64 = 86_400 * SECOND_NS;
 
+// The most that an offset moves a reading.
+pub(crate) const MOST_NS: u64 = 57_600 * SECOND_NS;
+
 // An offset is kept in seconds plus 57,600.
 pub(crate) const OFFSET_MOST: u32 = 115_200;
 

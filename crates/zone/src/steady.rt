@@ -5,6 +5,7 @@ ghost use Rattle.zone.specs.Answers.{Valid};
 ghost use Rattle.zone.specs.Steady.{steadyOf, dayBy, midnightBy, OnWall, DayOnWall};
 use crate::DAY_NS;
 use crate::Instant;
+use crate::MOST_NS;
 use crate::SECOND_NS;
 use crate::search::next_at;
 use crate::search::offset_after;
@@ -16,8 +17,6 @@ pub enum Steady {
     No,
     By(u32),
 }
-
-const MOST_NS: u64 = 57_600 * SECOND_NS;
 
 // A day, and twice as much as an offset can be.
 const MARGIN_NS: u64 = DAY_NS + 2 * MOST_NS;

@@ -45,8 +45,7 @@ cast-marked c =
 marked-requires : tie.Need-marked-requires
 marked-requires c κs =
     let at-weekday = c in
-    let at-rule-mask = at-weekday .before in
-    ((at-rule-mask .rule-mask .ensures) .1, omega (arith, (at-weekday .weekday .ensures)))
+    omega (arith, (at-weekday .weekday .ensures))
 
 returns-4 : tie.Need-returns-4
 returns-4 c =
