@@ -1,22 +1,23 @@
--- Phases that are written in less than nine steps: all alike in their uncertainties, or standing already but for what joining alters. Assumes nothing.
+-- A phase written in two parts: what a span keeps that joins it, and what it alters. Assumes nothing.
 use mathlib.Core.Path.{_≡_}
 use mathlib.Core.List.{List}
 use Prim.Native.Nat.{ℕ}
+use lib.ListN.{take}
 use Rattle.wire.specs.Fields.{Inside, wrote}
+use Rattle.answer.specs.Forms as Forms
 use Rattle.answer.specs.Forms.{phase, encode}
 use Rattle.answer.specs.Meaning.{phaseOf}
 use Rattle.answer.specs.declared.Phase.{Phase}
 
--- both boundaries and the whole are uncertain alike
-pub record Alike (p : Phase) : Type 0 where
-  pub from : p .from .uncertainty ≡ p .whole
-  pub to : p .to .uncertainty ≡ p .whole
+-- its bytes up to the second boundary
+abbrev pub front : Forms.Phase → List ℕ
+front p = take 55 (encode (phase p))
 
--- a phase stands at `at` that says what p says, but for its end, its second boundary, its whole uncertainty and its events
+-- there is room for p at `at`, and the front of a phase stands there that says what p says, but for its end
 pub record Amends (s : List ℕ) (at : ℕ) (p : Phase) : Type 0 where
   pub old : Phase
   pub inside : Inside at 105 s
-  pub stands : s ≡ wrote s at (encode (phase (phaseOf old)))
+  pub stands : s ≡ wrote s at (front (phaseOf old))
   pub start : old .start ≡ p .start
   pub phase : old .phase ≡ p .phase
   pub code : old .code ≡ p .code

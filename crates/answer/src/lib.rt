@@ -2,7 +2,7 @@
 mod put;
 
 pub use put::amend_phase;
-pub use put::put_alike;
+pub use put::begin_phase;
 pub use put::put_day;
 pub use put::put_event;
 pub use put::put_gap;

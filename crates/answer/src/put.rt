@@ -9,7 +9,7 @@ ghost use Rattle.wire.specs.Fields.{Inside, Put, bytes};
 ghost use Rattle.zone.specs.Units.{instantNumber};
 ghost use Rattle.zone.specs.Answers.{values, uncertaintyBytes};
 ghost use Rattle.answer.specs.Forms.{phase, unknown, event, point, day, tally, encode};
-ghost use Rattle.answer.specs.Amending.{Alike, Amends};
+ghost use Rattle.answer.specs.Amending.{front, Amends};
 ghost use Rattle.answer.specs.Meaning.{phaseOf, eventOf, coverBytes, missingOf, gapOf, totalsBytes, totalsOf};
 use crate::Covered;
 use crate::Phase;
@@ -105,21 +105,15 @@ fn taken_apart(u: Uncertainty) -> Parts
     }
 }
 
-fn put_parts(out: &mut [u8], at: usize, p: Parts) -> usize
-    requires { ⌜ Inside at 19 (now out) ⌝ }
-    ensures { λ r. ⌜ Put (now (out .entry)) at (bytes 1 (p .tag) ++ (bytes 8 (p .one) ++ (bytes 8 (p .two) ++ bytes 2 (p .text)))) 19 (now (out .exit)) r ⌝ }
-{
-    let a = put1(out, at, p.tag);
-    let b = put8(out, a, p.one);
-    let c = put8(out, b, p.two);
-    put2(out, c, p.text)
-}
-
 fn put_uncertainty(out: &mut [u8], at: usize, u: Uncertainty) -> usize
     requires { ⌜ Inside at 19 (now out) ⌝ }
     ensures { λ r. ⌜ Put (now (out .entry)) at (uncertaintyBytes u) 19 (now (out .exit)) r ⌝ }
 {
-    put_parts(out, at, taken_apart(u))
+    let p = taken_apart(u);
+    let a = put1(out, at, p.tag);
+    let b = put8(out, a, p.one);
+    let c = put8(out, b, p.two);
+    put2(out, c, p.text)
 }
 
 fn put_boundary(out: &mut [u8], at: usize, b: Boundary) -> usize
@@ -159,44 +153,20 @@ fn put_rule(
     put2(out, d, derived)
 }
 
-// Kind 16.
-pub fn put_phase(out: &mut [u8], at: usize, p: Phase) -> usize
-    requires { ⌜ Inside at 105 (now out) ⌝ }
-    ensures { λ r. ⌜ Put (now (out .entry)) at (encode (phase (phaseOf p))) 105 (now (out .exit)) r ⌝ }
+// The first 55 bytes of kind 16: its head, its ends, its rule's numbers and its first boundary.
+pub fn begin_phase(out: &mut [u8], at: usize, p: Phase) -> usize
+    requires { ⌜ Inside at 55 (now out) ⌝ }
+    ensures { λ r. ⌜ Put (now (out .entry)) at (front (phaseOf p)) 55 (now (out .exit)) r ⌝ }
 {
     let from = p.from;
-    let to = p.to;
-    let whole = p.whole;
     let a = put_head(out, at, 103, 16);
     let b = put_span(out, a, p.start, p.end);
     let c = put_rule(out, b, p.phase, p.code, p.label, p.evidence, p.derived);
-    let d = put_boundary(out, c, from);
-    let e = put_boundary(out, d, to);
-    let f = put_uncertainty(out, e, whole);
-    put4(out, f, p.events)
+    put_boundary(out, c, from)
 }
 
-// Kind 16, where both boundaries and the whole are uncertain alike: this is taken apart once and written three times.
-pub fn put_alike(out: &mut [u8], at: usize, p: Phase) -> usize
-    requires { ⌜ Inside at 105 (now out) × Alike p ⌝ }
-    ensures { λ r. ⌜ Put (now (out .entry)) at (encode (phase (phaseOf p))) 105 (now (out .exit)) r ⌝ }
-{
-    let from = p.from;
-    let to = p.to;
-    let whole = p.whole;
-    let u = taken_apart(whole);
-    let a = put_head(out, at, 103, 16);
-    let b = put_span(out, a, p.start, p.end);
-    let c = put_rule(out, b, p.phase, p.code, p.label, p.evidence, p.derived);
-    let d = put_instant(out, c, from.at);
-    let e = put_parts(out, d, u);
-    let f = put_instant(out, e, to.at);
-    let g = put_parts(out, f, u);
-    let h = put_parts(out, g, u);
-    put4(out, h, p.events)
-}
-
-// Kind 16, in place of one that stands at `at` and says the same but for its end, its second boundary, its whole uncertainty and its events.
+// Kind 16 where its first 55 bytes stand, but for its end: what a span alters that joins it, its end, its second boundary, its whole uncertainty
+// and its events.
 pub fn amend_phase(out: &mut [u8], at: usize, p: Phase) -> usize
     requires { ⌜ Amends (now out) at p ⌝ }
     ensures { λ r. ⌜ Put (now (out .entry)) at (encode (phase (phaseOf p))) 105 (now (out .exit)) r ⌝ }
@@ -207,6 +177,15 @@ pub fn amend_phase(out: &mut [u8], at: usize, p: Phase) -> usize
     let a = put_boundary(out, at + TO, to);
     let b = put_uncertainty(out, a, whole);
     put4(out, b, p.events)
+}
+
+// Kind 16.
+pub fn put_phase(out: &mut [u8], at: usize, p: Phase) -> usize
+    requires { ⌜ Inside at 105 (now out) ⌝ }
+    ensures { λ r. ⌜ Put (now (out .entry)) at (encode (phase (phaseOf p))) 105 (now (out .exit)) r ⌝ }
+{
+    begin_phase(out, at, p);
+    amend_phase(out, at, p)
 }
 
 // Kind 18.

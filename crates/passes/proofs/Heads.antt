@@ -11,7 +11,6 @@ use Rattle.zone.specs.declared.Uncertainty.{Uncertainty}
 use Rattle.zone.specs.declared.Uncertainty.the-variants.{Exact, PublishedGranularity, PublishedBound, ProcessStart, AmbiguousLocalTime, NonexistentLocalTime}
 use Rattle.venue.specs.Reading.{published}
 use Rattle.day.specs.Days.{Held, whole as wholeOf}
-use Rattle.answer.specs.Amending.{Alike}
 use Rattle.answer.specs.declared.Phase.{Phase}
 use Rattle.walk.specs.Walking.{ruleOf, pointOf, heldIn, calmIn, Fits}
 use Rattle.walk.specs.declared.Piece.{Piece}
@@ -41,9 +40,3 @@ module _ (s : List ℕ) (z : Zone) (q : Piece) (n : ℕ) {head : Phase} where
   pub span-head : {h : Held} → h ≡ heldIn s z q → {u : Uncertainty} → u ≡ wholeOf h → head ≡ headOf (q .from .0) (q .to .0) h u n → head ≡ pieceHead s z q n
   span-head {h} e {u} f g =
       g ∙ ap (λ (v : Uncertainty). headOf (q .from .0) (q .to .0) h v n) f ∙ ap (λ (x : Held). headOf (q .from .0) (q .to .0) x (wholeOf x) n) e
-
--- a calm piece's record is uncertain alike throughout
-pub calm-alike : (s : List ℕ) (z : Zone) (q : Piece) (n : ℕ) → Fits s z q → q .calm ≡ true → Alike (pieceHead s z q n)
-calm-alike s z q n f c =
-    let same = sym (widest-same (published (ruleOf s q .uncertainty))) in
-    subst (λ (x : Held). Alike (headOf (q .from .0) (q .to .0) x (wholeOf x) n)) (sym (f .calm c)) (record { from = same; to = same })

@@ -10,10 +10,11 @@ use Rattle.wire.specs.Fields.{Inside, Put, wrote}
 use Rattle.wire.proofs.Writing.{wrote-nothing}
 use Rattle.spans.specs.Spans.{Span, joins, joinedSpan, joinFrom, joined}
 use Rattle.spans.proofs.Loops.{amend, stand as stays}
-use Rattle.answer.specs.Amending.{Alike, Amends}
+use Rattle.answer.specs.Amending.{Amends}
 use Rattle.answer.specs.Forms.{phase, encode, encodeAll}
 use Rattle.answer.specs.Meaning.{phaseOf}
 use Rattle.answer.specs.declared.Phase.{Phase}
+use Rattle.answer.proofs.Amended.{front-stands}
 use Rattle.tell.specs.Shown.{Shown}
 use Rattle.tell.proofs.Trailing.{events-length}
 use Rattle.joining.specs.Joining.{phases}
@@ -88,8 +89,8 @@ pub record Goes (room : List ℕ) (at : ℕ) (target now : List ℕ) (stand : �
   pub begin : place + cond joining 0 105 ≤ length room
   pub space : Inside (trailAt joining place) (35 * many q) now
   pub count : cond joining (head .events) 0 + many q < 4294967296
-  pub ready : {now1 : List ℕ} {end : ℕ} → Put now (trailAt joining place) (eventBytes q) (35 * many q) now1 end → (calm : Bool) → (calm ≡ true → Alike (headAt q))
-      → Recorded now1 (standAt joining stand place) joining calm (headBy joining head (headAt q))
+  pub ready : {now1 : List ℕ} {end : ℕ} → Put now (trailAt joining place) (eventBytes q) (35 * many q) now1 end
+      → Recorded now1 (standAt joining stand place) joining (headBy joining head (headAt q))
   pub next : {now1 now2 : List ℕ} {end : ℕ} → Put now (trailAt joining place) (eventBytes q) (35 * many q) now1 end
       → now2 ≡ wrote now1 (standAt joining stand place) (encode (phase (phaseOf (headBy joining head (headAt q)))))
       → Writing room at target now2 true (standAt joining stand place) (headBy joining head (headAt q)) end qs
@@ -139,9 +140,8 @@ module _ {room : List ℕ} {at : ℕ} {target now : List ℕ} {stand : ℕ} {hea
               };
         }
 
-    own-ready : {now1 : List ℕ} {end : ℕ} → Put now (place + 105) (eventBytes q) (35 * many q) now1 end → (calm : Bool) → (calm ≡ true → Alike (headAt q)) → Recorded now1 place false calm (headAt q)
-    own-ready y true f = (omega (arith, own-room, y .kept), f refl)
-    own-ready y false f = omega (arith, own-room, y .kept)
+    own-ready : {now1 : List ℕ} {end : ℕ} → Put now (place + 105) (eventBytes q) (35 * many q) now1 end → Inside place 105 now1
+    own-ready y = omega (arith, own-room, y .kept)
 
     own-goes : Goes room at target now stand head place q qs false
     own-goes = record { begin = omega (arith, own-room, w .put .kept); space = omega (arith, own-room); count = omega arith; ready = own-ready; next = own-write }
@@ -176,11 +176,12 @@ module _ {room : List ℕ} {at : ℕ} {target now : List ℕ} {stand : ℕ} {hea
         omega (arith, so-long, from-least both qs, w .fits, w .put .behind, w .put .kept)
 
     join-ready : {now1 : List ℕ} {end : ℕ} → Put now place (eventBytes q) (35 * many q) now1 end → Amends now1 stand (joinedHead head (headAt q))
-    join-ready y =
+    join-ready {now1} y =
+        let inside : Inside stand 105 now1 = omega (arith, so-long, join-room, o .stands, w .put .behind, y .kept) in
         record {
           old = head;
-          inside = omega (arith, so-long, join-room, o .stands, w .put .behind, y .kept);
-          stands = rw (o .says) (stood (o .done) (headBytes s) (eventBytes s) so-far y join-room (o .stands));
+          inside = inside;
+          stands = rw (o .says) (front-stands (phaseOf (headAt s)) now1 stand (stood (o .done) (headBytes s) (eventBytes s) so-far y join-room (o .stands)) inside);
           start = refl;
           phase = refl;
           code = refl;
@@ -217,7 +218,7 @@ module _ {room : List ℕ} {at : ℕ} {target now : List ℕ} {stand : ℕ} {hea
           begin = omega (arith, join-room, w .put .kept);
           space = join-room;
           count = let n = ap (λ (x : Phase). x .events) (o .says) in omega (arith, o .few);
-          ready = λ y calm f. join-ready y;
+          ready = join-ready;
           next = join-write;
         }
 

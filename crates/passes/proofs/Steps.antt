@@ -28,7 +28,6 @@ use Rattle.joining.specs.declared.Last.{Last}
 use Rattle.joining.proofs.Sizes.{many, headAt, eventBytes, joinsNext, bytesOf}
 use Rattle.joining.proofs.Steps as Walked
 use Rattle.passes.specs.Private.{Recorded, pieceHead}
-use Rattle.passes.proofs.Heads.{calm-alike}
 use Rattle.passes.proofs.Passes.{shows, Writing, write-start, Goes, goes, write-end}
 
 -- so many records of 35 bytes
@@ -133,8 +132,8 @@ module _ {s : List ℕ} {first : ℕ} {ats offsets rules events : List ℕ} {hi 
       its-head : head′ ≡ cond b (joinedHead head (headAt own)) (headAt own)
       its-head = d ∙ ap (λ (h : Phase). cond b (joinedHead head h) h) (u ∙ ap (pieceHead s zone q) (its-length y ∙ sym its-many))
 
-      pub its-record : Recorded now1 stand′ b (q .calm) head′
-      its-record = rw (v, its-head) (t .goes .ready its-events (q .calm) (calm-alike s zone q (many own) (t .fits)))
+      pub its-record : Recorded now1 stand′ b head′
+      its-record = rw (v, its-head) (t .goes .ready its-events)
 
       pub written : {now2 : List ℕ} → now2 ≡ wrote now1 stand′ (encode (phase (phaseOf head′))) → Writing room at target now2 true stand′ head′ end (left s first ats offsets rules events hi (behind q))
       written o = rw (v, its-head) (t .goes .next its-events (rw (← v, ← its-head) o))

@@ -7,15 +7,14 @@ use Rattle.zone.specs.Zone.{Zone}
 use Rattle.day.specs.Days.{whole as wholeOf}
 use Rattle.walk.specs.Walking.{heldIn}
 use Rattle.walk.specs.declared.Piece.{Piece}
-use Rattle.answer.specs.Amending.{Alike, Amends}
+use Rattle.answer.specs.Amending.{Amends}
 use Rattle.answer.specs.declared.Phase.{Phase}
 use Rattle.tell.specs.Shown.{headOf}
 
--- a record amends one that stands there, or it fits there, and is uncertain alike throughout where it is calm
-abbrev pub Recorded : List ℕ → ℕ → Bool → Bool → Phase → Type 0
-Recorded s stand true calm head = Amends s stand head
-Recorded s stand false true head = Inside stand 105 s × Alike head
-Recorded s stand false false head = Inside stand 105 s
+-- a record amends one that stands there, or there is room for it
+abbrev pub Recorded : List ℕ → ℕ → Bool → Phase → Type 0
+Recorded s stand true head = Amends s stand head
+Recorded s stand false head = Inside stand 105 s
 
 -- a piece's record, with n events behind it
 abbrev pub pieceHead : List ℕ → Zone → Piece → ℕ → Phase

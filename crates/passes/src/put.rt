@@ -1,5 +1,5 @@
 // The second pass over a walk: it takes the same steps as the first, joins alike, and writes. A span that joins the one before amends its record.
-ghost use Prim.Native.Nat.{_+_, _<_};
+ghost use Prim.Native.Nat.{_+_, _^_, _<_};
 ghost use mathlib.Core.Path.{_≡_};
 ghost use mathlib.Core.Bool.{cond};
 ghost use lib.ListN.{length};
@@ -17,8 +17,7 @@ use answer::EVENT_BYTES;
 use answer::PHASE_BYTES;
 use answer::Phase;
 use answer::amend_phase;
-use answer::put_alike;
-use answer::put_phase;
+use answer::begin_phase;
 use day::Segment;
 use joining::joined;
 use joining::joins;
@@ -80,7 +79,7 @@ fn head_of(book: &[u8], first: u32, ats: &[u64], offsets: &[u32], q: Piece, even
 
 // Where a span's events go: behind those of the record that it joins, or behind a record of its own.
 fn events_place(joining: bool, place: usize) -> usize
-    requires { ⌜ place + cond joining 0 105 < 18446744073709551616 ⌝ }
+    requires { ⌜ place + cond joining 0 105 < 2 ^ 64 ⌝ }
     ensures { λ r. ⌜ r ≡ cond joining place (place + 105) ⌝ }
 {
     if joining { place } else { place + PHASE_BYTES }
@@ -95,7 +94,7 @@ fn record_place(joining: bool, stand: usize, place: usize) -> usize
 
 // What the record says behind a span: what joined spans say, or the span's own.
 fn told(joining: bool, head: Phase, new: Phase) -> Phase
-    requires { ⌜ cond joining (head .events) 0 + new .events < 4294967296 ⌝ }
+    requires { ⌜ cond joining (head .events) 0 + new .events < 2 ^ 32 ⌝ }
     ensures { λ r. ⌜ r ≡ cond joining (joinedHead head new) new ⌝ }
 {
     if joining {
@@ -104,20 +103,15 @@ fn told(joining: bool, head: Phase, new: Phase) -> Phase
     new
 }
 
-// Writes the record: amended where a span has joined it, else as a whole.
-fn put_record(out: &mut [u8], stand: usize, joining: bool, calm: bool, head: Phase)
-    requires { ⌜ Recorded (now out) stand joining calm head ⌝ }
+// Writes the record: where a span has joined it, only what that alters.
+fn put_record(out: &mut [u8], stand: usize, joining: bool, head: Phase)
+    requires { ⌜ Recorded (now out) stand joining head ⌝ }
     ensures { λ r. ⌜ now (out .exit) ≡ wrote (now (out .entry)) stand (encode (phase (phaseOf head))) ⌝ }
 {
-    if joining {
-        amend_phase(out, stand, head);
-        return;
+    if !joining {
+        begin_phase(out, stand, head);
     }
-    if calm {
-        put_alike(out, stand, head);
-        return;
-    }
-    put_phase(out, stand, head);
+    amend_phase(out, stand, head);
 }
 
 // No record yet.
@@ -202,7 +196,7 @@ pub fn put_walk(
                 let new = head_of(book, first, ats, offsets, q, count as u32);
                 stand = record_place(joining, stand, place);
                 head = told(joining, head, new);
-                put_record(out, stand, joining, q.calm, head);
+                put_record(out, stand, joining, head);
                 begun = true;
                 place = done;
                 w = behind(q);

@@ -7,7 +7,7 @@ use native.Mathlib.Numerals.{add-one}
 use native.Mathlib.Omega.{arith}
 use lib.Arith.{mod-mul}
 use lib.ListN.{length, getD, take, drop, set, length-append, take-append-drop, length-set, List·getD-append}
-use lib.Seq.{drop-cons, sets, sets-eq, length-sets, getD-append-add, getD-take, getD-drop, length-take-le, take-append-le, take-take, take-at, drop-at}
+use lib.Seq.{drop-cons, sets, sets-eq, length-sets, getD-append-add, getD-take, getD-drop, length-take-le, take-append-le, take-take, take-at, drop-at, drop-append-add, drop-drop}
 use Rattle.wire.specs.Fields.{field, bytes, wrote, Inside, Put, Field, laid, writes}
 use Rattle.wire.proofs.Reading.{field-same}
 
@@ -119,6 +119,21 @@ wrote-in-front l at n vs ws q p =
     let front : take at (take n l ++ (ws ++ rest)) ≡ take at l = take-append-le at (take n l) (ws ++ rest) (omega arith) ∙ take-take at n l (omega arith) in
     let end : n + length ws ≡ at + length (vs ++ ws) = omega (arith, length-append vs ws) in
     rw (append-assoc (take n l) ws rest, front, ← q, drop-at (take n l) (ws ++ rest) n long) (simp append-assoc (ap (λ (i : ℕ). take at l ++ (vs ++ (ws ++ drop i l))) end))
+
+-- a write over one that is not longer, at the same place
+pub wrote-again : (l : List ℕ) (at : ℕ) (vs ws : List ℕ) → length vs ≤ length ws → Inside at (length ws) l → wrote (wrote l at vs) at ws ≡ wrote l at ws
+unfolding wrote
+wrote-again l at vs ws h p =
+    let n = at + length vs in
+    let k = length ws - length vs in
+    let before = take at l ++ vs in
+    let long : length (take at l) ≡ at = length-take-le at l (omega arith) in
+    let both : at + length ws ≡ length before + k = omega (arith, length-append (take at l) vs) in
+    let more : n + k ≡ at + length ws = omega arith in
+    let behind : drop (at + length ws) (before ++ drop n l) ≡ drop (at + length ws) l =
+    ap (λ (i : ℕ). drop i (before ++ drop n l)) both ∙ drop-append-add before (drop n l) k ∙ drop-drop k n l ∙ ap (λ (i : ℕ). drop i l) more in
+    let front : take at (before ++ drop n l) ≡ take at l = ap (take at) (append-assoc (take at l) vs (drop n l)) ∙ take-at (take at l) (vs ++ drop n l) at long in
+    rw (front, behind)
 
 -- as many bytes in place of some that stand between others
 over : (a y b v : List ℕ) (n : ℕ) → length a ≡ n → length v ≡ length y → wrote (a ++ (y ++ b)) n v ≡ a ++ (v ++ b)
