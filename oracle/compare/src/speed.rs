@@ -1,6 +1,7 @@
 //! How fast the port answers, and how fast the original does from a prepared ruleset, in one run: the best of several.
 //! The port checks and opens the whole book, or judges the whole row, at every call; its room is not cleared between calls. The
-//! original has its values ready. It has no tally: beside the port's stands the time of its timeline alone.
+//! original has its values ready. It has no tally: beside the port's stands the time of its timeline alone. A row is drawn and
+//! counted twice over: from the row itself, which the original has as a value, and from the book, where both begin anew.
 
 use crate::book::{self, Event, Published, Record, Rule};
 use crate::drawn::{self, Cells};
@@ -8,6 +9,7 @@ use crate::given::{Query, Venue};
 use crate::make_rows;
 use crate::port::{self, Room};
 use crate::row;
+use market_time_board::BoardRow;
 use std::hint::black_box;
 use std::time::Instant;
 
@@ -155,7 +157,7 @@ fn best(tries: usize, calls: usize, mut call: impl FnMut()) -> f64 {
 
 fn told(name: &str, ours: f64, given: f64, length: usize) {
     println!(
-        "{name:<28} {ours:>12.0} ns {given:>13.0} ns {:>8.1} {length:>9} bytes",
+        "{name:<32} {ours:>12.0} ns {given:>13.0} ns {:>8.1} {length:>9} bytes",
         given / ours
     );
 }
@@ -207,6 +209,62 @@ fn counted(name: &str, bytes: &[u8], many: u16) {
     });
     let ours = best(10, 20, || {
         black_box(port::count(black_box(&marked), at));
+    });
+    told(name, ours, given, marked.len());
+}
+
+/// A row from the book itself: the window resolved, then drawn. The original begins with its ruleset.
+fn drawn_from_the_book(name: &str, book: &[u8], days: i64, columns: i64) {
+    let asked = Cells {
+        start: YEAR,
+        end: YEAR + days * DAY,
+        columns,
+        marked: true,
+        now: YEAR + 1,
+    };
+    let window = Query::Window {
+        start: asked.start,
+        end: asked.end,
+    };
+    let venue = Venue::open(book).expect("a good book");
+    let mut row = Room::new(venue.answer(&window).expect("an answer").len());
+    let length = columns as usize + 2;
+    let mut room = Room::new(length);
+    let given = best(10, 20, || {
+        let timeline = venue.timeline(black_box(asked.start), asked.end);
+        black_box(drawn::render(&timeline, &asked));
+    });
+    let ours = best(10, 20, || {
+        let (_, written) = port::ask(black_box(book), &window, &mut row);
+        black_box(port::cells(&row.bytes()[..written], &asked, &mut room));
+    });
+    told(name, ours, given, length);
+}
+
+/// So many rows from the book itself, and their count.
+fn counted_from_the_book(name: &str, book: &[u8], days: i64, many: u16) {
+    let window = Query::Window {
+        start: YEAR,
+        end: YEAR + days * DAY,
+    };
+    let at = YEAR + 4 * DAY + 10 * 3600 * SECOND;
+    let venue = Venue::open(book).expect("a good book");
+    let mut row = Room::new(venue.answer(&window).expect("an answer").len());
+    let mut marked = Vec::new();
+    let given = best(10, 20, || {
+        let rows: Vec<BoardRow> = (0..many)
+            .map(|_| BoardRow::new(venue.timeline(YEAR, black_box(YEAR + days * DAY)), None))
+            .collect();
+        black_box(drawn::counted(&rows, at));
+    });
+    let ours = best(10, 20, || {
+        marked.clear();
+        for number in 0..many {
+            let (_, written) = port::ask(black_box(book), &window, &mut row);
+            marked.extend(make_rows::mark(number));
+            marked.extend_from_slice(&row.bytes()[..written]);
+        }
+        black_box(port::count(&marked, at));
     });
     told(name, ours, given, marked.len());
 }
@@ -263,7 +321,7 @@ fn growth() {
 }
 
 pub fn run() {
-    println!("what                                 port          Rust    ratio    bytes");
+    println!("what                                     port          Rust    ratio    bytes");
     let point = Query::Point {
         at: YEAR + 4 * DAY + 10 * 3600 * SECOND,
     };
@@ -314,6 +372,17 @@ pub fn run() {
             );
         }
         counted(&format!("rich, {days} d, count of 100"), &length, 100);
+    }
+    for (name, book) in [("A", &small), ("rich", &rich)] {
+        for (days, columns) in [(1, 12), (1, 512), (365, 12), (365, 512)] {
+            drawn_from_the_book(
+                &format!("{name}, from the book, {days} d in {columns}"),
+                book,
+                days,
+                columns,
+            );
+        }
+        counted_from_the_book(&format!("{name}, from the book, count of 100"), book, 1, 100);
     }
     growth();
 }
