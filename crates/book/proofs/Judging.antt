@@ -12,7 +12,7 @@ use Rattle.wire.specs.Fields.{field}
 use Rattle.wire.specs.Signs.{half, meant, turned}
 use Rattle.wire.proofs.Signs.{order-lt, order-le}
 use Rattle.zone.specs.Units.{dayNs}
-use Rattle.records.specs.Layout.{number, integer, by, tag, nanoseconds, count, time, phase, step, dayFirst, dayLast, coverageStart, coverageEnd}
+use Rattle.records.specs.Layout.{number, integer, tag, nanoseconds, count, time, phase, step, dayFirst, dayLast, coverageStart, coverageEnd}
 use Rattle.records.specs.Records
 use Rattle.records.specs.Records.{rule, ruleAt, recordAt, publishedAt, pointsAt, timesAt}
 use Rattle.records.specs.Book.{kindAt, badUncertainty, late, lateStart, reversed, coversNothing}

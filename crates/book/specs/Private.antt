@@ -1,14 +1,14 @@
 -- What the private functions answer. Assumes nothing.
 use Prim.Native.Nat.{ℕ, zero, suc, _+_, _-_, _^_, _<_}
 use mathlib.Core.Path.{_≡_}
-use mathlib.Core.Bool.{Bool, false, not, _&&_, _||_}
+use mathlib.Core.Bool.{Bool, false, _&&_, _||_}
 use mathlib.Core.List.{List}
 use lib.Dec.{ltb, eqb}
 use mir.Syntax.{w64}
 use Rattle.wire.specs.Signs.{turned}
 use Rattle.book.specs.declared.judge.Seen.{Seen}
-use Rattle.records.specs.Layout.{number, kind, by, transitionInstant, time, phase, step}
-use Rattle.records.specs.Book.{many, records, badTime, kindAt, spacing}
+use Rattle.records.specs.Layout.{number, by, transitionInstant, time, phase, step}
+use Rattle.records.specs.Book.{badTime, kindAt, spacing}
 
 -- one point or time, read from `at` on
 abbrev pub badItem : List ℕ → ℕ → ℕ → Bool

@@ -6,7 +6,7 @@ use mathlib.Core.List.{List, [], _∷_}
 use mathlib.Core.Option.{some}
 use lib.ListN.{length}
 use Rattle.spans.specs.Spans.{Mark, Span, holds}
-use Rattle.rows.specs.Rows.{Row, segmentsAt}
+use Rattle.rows.specs.Rows.{segmentsAt}
 use Rattle.rows.specs.Telling.{markOf, goodOn, markAt, rowsAt}
 use Rattle.rows.specs.declared.Segment.{Segment}
 use Rattle.classes.specs.Classes.{classOf, classAt, one}

@@ -1,20 +1,20 @@
 -- The rules near a date govern it as all rules do: one that does not apply never takes the place of another. Assumes nothing.
 use mathlib.Core.Path.{_≡_, refl, sym, ap, _∙_}
-use mathlib.Core.Bool.{Bool, true, false, cond, _&&_, and-false}
+use mathlib.Core.Bool.{Bool, true, false, cond, and-false}
 use mathlib.Core.List.{List, [], _∷_, map}
 use mathlib.Core.Option.{Option, none, some}
 use Prim.Native.Nat.{ℕ, zero, suc, _+_, _≤_, _<_}
 use native.Mathlib.Nat.{le-of-suc-le-suc}
 use native.Mathlib.Numerals.{add-one}
 use native.Mathlib.Omega.{arith}
-use borrow.Author.Tests.{leb-true, leb-false, le-leb, lt-leb}
+use borrow.Author.Tests.{leb-false, lt-leb}
 use lib.Dec.{leb}
 use lib.ListN.{length, getD, set, drop}
 use lib.Seq.{drop-cons, drop-length}
 use Rattle.wire.specs.Fields.{wrote}
 use Rattle.records.specs.Records.{Rule, ruleAt}
 use Rattle.venue.specs.Opening.{dayOf}
-use Rattle.venue.specs.Reading.{Listed, AllListed}
+use Rattle.venue.specs.Reading.{AllListed}
 use Rattle.venue.proofs.Passing.{Storing, storing-start, storing-one, storing-end}
 use Rattle.day.specs.Governing.{applies, takes, governingFrom, governing}
 use Rattle.day.specs.Narrowing.{meets, nearOf}

@@ -3,14 +3,10 @@ use mathlib.Core.Path.{_≡_, refl, sym, ap, _∙_, subst}
 use mathlib.Core.Bool.{Bool, true, false, cond, _&&_}
 use mathlib.Core.List.{List, [], _∷_, _++_}
 use mathlib.Core.Option.{Option, none, some}
-use Prim.Native.Nat.{ℕ, suc, _+_, _-_, _^_, _≤_, _<_}
-use native.Mathlib.Omega.{arith}
+use Prim.Native.Nat.{ℕ, suc, _+_, _-_, _≤_, _<_}
 use borrow.Author.Tests.{lt-ltb, le-ltb, le-leb, lt-leb, ltb-true}
 use lib.Dec.{leb, ltb}
-use Rattle.zone.specs.Zone.{Zone, zoneOf, dateAt}
-use Rattle.zone.specs.Units.{nearestInstant}
-use Rattle.zone.specs.Answers.{Valid}
-use Rattle.zone.proofs.Offsets.{offset-most}
+use Rattle.zone.specs.Zone.{Zone}
 use Rattle.records.specs.Records.{Point, Rule}
 use Rattle.spans.specs.Spans.{Span, keep, holds, look, Within}
 use Rattle.spans.specs.Timeline.{Edge, Venue, Part, raised, between, cut, ofPoints, ofRule, spans, pointAt}

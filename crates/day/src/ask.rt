@@ -12,7 +12,6 @@ ghost use Rattle.day.specs.Governing.{governing as Governing·governing}
 ghost use Rattle.day.specs.Days.{Held, venueBy, after};
 ghost use Rattle.day.specs.Meaning.{held, Placed, begun as Meaning·begun};
 use crate::Governed;
-use crate::Segment;
 use crate::Spanned;
 use crate::cut::span_after;
 use crate::govern::governing;

@@ -1,6 +1,6 @@
 // Events are found by date, listed rule and listed time. Here they are not stored: each is sought behind the one before it. This is the
 // way near a clock change; where none is near, steady.rt finds them once.
-ghost use Prim.Native.Nat.{_+_, _*_, _^_, _≤_, _<_};
+ghost use Prim.Native.Nat.{_+_, _^_, _≤_, _<_};
 ghost use mathlib.Core.Path.{_≡_};
 ghost use mathlib.Core.List.{map};
 ghost use lib.ListN.{length};

@@ -1,8 +1,7 @@
 // The lines of the text. Each function writes from `at` on and answers the place behind what it wrote.
-ghost use Prim.Native.Nat.{_≤_, _*_};
+ghost use Prim.Native.Nat.{_*_};
 ghost use mathlib.Core.Path.{_≡_};
 ghost use mathlib.Core.Bool.{true};
-ghost use mathlib.Core.List.{[], _∷_};
 ghost use lib.ListN.{length};
 ghost use Rattle.wire.specs.Fields.{Inside};
 ghost use Rattle.spans.specs.Spans.{phase, unknown};

@@ -1,9 +1,8 @@
 -- Every cell of a plain window's own timeline, but for the marker's, shows the point answer at its instant. Assumes nothing.
-use mathlib.Core.Path.{_≡_, sym, ap, ap₂, subst, _∙_}
+use mathlib.Core.Path.{_≡_, sym, ap, _∙_}
 use mathlib.Core.Bool.{Bool, cond}
 use mathlib.Core.List.{List}
-use mathlib.Core.Option.{Option}
-use Prim.Native.Nat.{ℕ, suc, _+_, _-_, _≤_, _<_}
+use Prim.Native.Nat.{ℕ, suc, _+_, _-_, _<_}
 use native.Mathlib.Omega.{arith}
 use borrow.Author.Tests.{le-leb, lt-ltb, ne-eqb}
 use lib.IntN.{ℤ}
@@ -16,7 +15,7 @@ use Rattle.zone.proofs.Domain.{instantZero, instant-placed}
 use Rattle.records.specs.Records.{Coverage}
 use Rattle.records.specs.Valid.{Bytes}
 use Rattle.venue.specs.Opening.{instantOf}
-use Rattle.spans.specs.Spans.{Mark, look}
+use Rattle.spans.specs.Spans.{look}
 use Rattle.query.proofs.Order.{Kept, window-passed}
 use Rattle.rows.specs.Rows as Rows
 use Rattle.timeline.specs.Asking.{windowNumber, windowAnswer}

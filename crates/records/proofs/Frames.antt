@@ -10,7 +10,7 @@ use borrow.Author.Tests.{le-ltb, ltb-false, eqb-true, not-false}
 use lib.ListN.{length}
 use lib.Dec.{ltb, eqb}
 use Rattle.wire.specs.Fields.{field}
-use Rattle.records.specs.Layout.{number, size, kind, by, count, time, step}
+use Rattle.records.specs.Layout.{number, size, by, count, step}
 use Rattle.records.specs.Records.{coverage, transition, rule, event, coverageAt, transitionAt, ruleAt, eventAt, recordAt}
 use Rattle.records.specs.Book.{kindAt, nextAt, lengthOf, badFrame}
 use Rattle.records.specs.Frame.{Framed, itemsAt}

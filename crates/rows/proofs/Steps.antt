@@ -1,20 +1,20 @@
 -- What it means that something stands at a place: whether the bytes from there on are good, and where the reading goes on. Assumes nothing.
 use mathlib.Core.Path.{_≡_, refl, sym, _∙_, subst}
 use mathlib.Core.Bool.{Bool, true, false, cond, _&&_, _||_}
-use mathlib.Core.List.{List, []}
+use mathlib.Core.List.{List}
 use Prim.Native.Nat.{ℕ, zero, suc, _+_, _-_, _*_, _≤_, _<_}
 use native.Mathlib.Omega.{arith}
-use borrow.Author.Tests.{ltb-true, ltb-false, eqb-true, eqb-false, eq-eqb}
+use borrow.Author.Tests.{ltb-true, ltb-false, eqb-true, eqb-false}
 use lib.Dec.{ltb, eqb}
 use lib.ListN.{length}
 use Rattle.wire.proofs.Signs.{and-true}
-use Rattle.rows.specs.Rows.{fromAt, enough, goodPhase, goodGap, goodSegment, goodEvent, goodMark, goodEvents, goodFrom, goodAt, goodRow}
+use Rattle.rows.specs.Rows.{fromAt, enough, goodPhase, goodGap, goodSegment, goodEvent, goodMark, goodEvents, goodFrom, goodAt}
 use Rattle.rows.specs.Telling.{segmentOf, goodOn, standsAt}
 use Rattle.rows.specs.declared.Segment.{Segment}
 use Rattle.rows.specs.declared.Stands.{Stands}
 use Rattle.rows.specs.declared.Stands.the-variants as Stands
 use Rattle.rows.proofs.Turns.{untrue, mark-holds, event-holds, at-end, phase-early, gap-early, other, mark-on}
-use Rattle.rows.proofs.Places.{Holds, holds, good-look, good-left}
+use Rattle.rows.proofs.Places.{holds, good-look, good-left}
 
 or-false : (a b : Bool) → (a || b) ≡ false → (a ≡ false) × (b ≡ false)
 or-false true b e = absurd (untrue (sym e))

@@ -1,7 +1,6 @@
 -- A timeline's bytes read back: which are a good row, which a good sequence of marked rows, and what segments they hold. Document 01,
 -- number 15. Instants of a row are any i64; they are placed, so that they compare as numbers. Assumes nothing.
 use Prim.Native.Nat.{ℕ, zero, suc, _+_, _-_, _*_}
-use mathlib.Core.Path.{_≡_}
 use mathlib.Core.Bool.{Bool, true, false, cond, _&&_, _||_}
 use mathlib.Core.List.{List, [], _∷_}
 use lib.Dec.{ltb, leb, eqb}

@@ -8,7 +8,7 @@ use Rattle.records.specs.Layout.{number, kind}
 use Rattle.spans.specs.Spans.{Mark, phase, unknown, Span}
 use Rattle.answer.specs.Forms
 use Rattle.rows.specs.Rows.{Seen, Row, fromAt, toAt, countAt, behindGap, goodEvent, goodEvents, goodSegment, goodMark, goodAt}
-use Rattle.rows.specs.Rows.{left, eventsFrom, segmentsAt, markFrom, rowsFrom}
+use Rattle.rows.specs.Rows.{left, eventsFrom, markFrom, rowsFrom}
 use Rattle.rows.specs.declared.Shows.{Shows}
 use Rattle.rows.specs.declared.Shows.the-variants.{Phase, Unknown}
 use Rattle.rows.specs.declared.Segment.{Segment}

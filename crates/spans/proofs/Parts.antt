@@ -1,11 +1,10 @@
 -- A timeline in three parts: what is unknown before coverage and after it joins nothing. Assumes nothing.
-use mathlib.Core.Path.{_≡_, refl, sym, ap, ap₂, _∙_}
+use mathlib.Core.Path.{_≡_, refl, ap, ap₂, _∙_}
 use mathlib.Core.Bool.{Bool, true, false, cond, _&&_}
 use mathlib.Core.List.{List, [], _∷_, _++_}
-use Prim.Native.Nat.{ℕ, _≤_, _<_, min, max}
+use Prim.Native.Nat.{ℕ, _<_, min, max}
 use native.Mathlib.Omega.{arith}
-use native.Mathlib.Decide.{decLt}
-use borrow.Author.Tests.{lt-ltb, le-ltb, ltb-true, ne-eqb}
+use borrow.Author.Tests.{ne-eqb}
 use lib.Dec.{ltb, eqb}
 use Rattle.spans.specs.Spans.{Mark, phase, unknown, Span, Body, keep, sameMark, joins, joinedSpan, joinFrom, joined}
 use Rattle.spans.specs.Timeline.{Venue, Part, turns, walk, unjoined, timeline}

@@ -1,5 +1,5 @@
 -- The pass over a window's stretches: they are in order, and each piece of the walk is the next of them. Assumes nothing.
-use mathlib.Core.Path.{_≡_, refl, sym, ap, ap₂, subst, _∙_}
+use mathlib.Core.Path.{_≡_, refl, sym, ap, subst, _∙_}
 use mathlib.Core.List.{List, [], _∷_, _++_, map}
 use mathlib.Core.Option.{Option}
 use Prim.Native.Nat.{ℕ, _+_, _*_, _≤_, _<_, min, max}
@@ -113,9 +113,6 @@ module _ (s : List ℕ) (first : ℕ) (ats offsets rules : List ℕ) (hi : ℕ) 
   -- a piece comes first, and where a turn leads
   abbrev pub ComesFirst : Walk → Piece → List ℕ → Type 0
   ComesFirst w q a = Comes s z (venueBy z g) hi w q a
-
-  abbrev pub LeadsTo : Walk → Walk → List ℕ → Type 0
-  LeadsTo w w′ a = LeadsOn s z (venueBy z g) hi w w′ a
 
   -- a step: a piece of the date at hand, or the next turn
   module _ (good : Valid first ats offsets) (w : Walk) (p : Pulled) (a : List ℕ) (h : Stands s z w a) (l : Looked s a hi w p) where

@@ -13,7 +13,7 @@ use Rattle.day.specs.Days.{Held}
 use Rattle.day.specs.declared.Governed.{Governed}
 use Rattle.day.specs.declared.Governed.the-variants.{Nothing, By}
 use Rattle.walk.specs.Walking.{Kept, Stands, Showing, Comes}
-use Rattle.walk.specs.Looking.{RuleHeld, Holds, pieceAt, NoneShows, FirstShows, Looked, Shown}
+use Rattle.walk.specs.Looking.{RuleHeld, Holds, pieceAt, NoneShows, Looked, Shown}
 use Rattle.walk.specs.declared.Walk.{Walk}
 use Rattle.walk.specs.declared.Piece.{Piece}
 use Rattle.walk.specs.declared.Pulled.the-variants.{Done, Next}

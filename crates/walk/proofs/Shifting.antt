@@ -6,9 +6,9 @@ use native.Mathlib.Nat.{not-suc-le-zero, le-of-suc-le-suc}
 use native.Mathlib.Omega.{arith}
 use lib.ListN.{length, getD, set, length-set}
 use Rattle.wire.specs.Fields.{wrote}
-use Rattle.zone.specs.Units.{dayNs, mostOffset, mostNs, nearestReading, readingAt}
+use Rattle.zone.specs.Units.{dayNs, mostOffset, nearestReading, readingAt}
 use Rattle.zone.specs.Zone.{Zone, zoneOf, dateAt, resolve}
-use Rattle.zone.specs.Answers.{Valid, taken, boundaryAt}
+use Rattle.zone.specs.Answers.{Valid, taken}
 use Rattle.zone.specs.Steady.{steadyOf, dayBy, midnightBy, OnWall, DayOnWall}
 use Rattle.zone.specs.declared.Boundary.{Boundary}
 use Rattle.zone.specs.declared.Uncertainty.{Uncertainty}

@@ -1,6 +1,5 @@
 // The offset that holds at an instant. An offset is in seconds plus 57,600, so that it is never negative.
 ghost use mathlib.Core.Path.{_≡_};
-ghost use mathlib.Core.Bool.{true};
 ghost use mathlib.Core.List.{_∷_};
 ghost use Prim.Native.Nat.{_*_, _≤_};
 ghost use lib.ListN.{length, getD};

@@ -1,4 +1,3 @@
-use lib.ListN.{length}
 use Prim.Native.Nat.{_-_, _≤_}
 use native.Mathlib.Omega.{arith}
 use Rattle.replay.proofs.is_as_it_was.Statement.{statement}

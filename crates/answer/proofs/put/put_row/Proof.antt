@@ -1,7 +1,4 @@
 use Rattle.answer.proofs.Chain.{after}
-use Rattle.answer.specs.Meaning.{totalsBytes}
-use Rattle.wire.specs.Fields.{Put}
-use Prim.Native.Nat.{_*_}
 use mathlib.Core.Path.{refl}
 use borrow.Author.Needs.{needs}
 use Rattle.answer.proofs.put.put_row.Statement.{statement}

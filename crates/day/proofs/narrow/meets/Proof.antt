@@ -1,6 +1,6 @@
 use lib.Dec.{leb}
 use Prim.Native.Nat.{ℕ}
-use mathlib.Core.Bool.{Bool, _&&_}
+use mathlib.Core.Bool.{_&&_}
 use mathlib.Core.Path.{ap₂}
 use borrow.Author.Needs.{needs}
 use Rattle.day.proofs.narrow.meets.Statement.{statement}

@@ -1,6 +1,5 @@
 use Rattle.rows.proofs.Places.{segment-room}
 use mathlib.Core.Path.{sym, _∙_}
-use Rattle.rows.proofs.Places.{holds}
 use Rattle.rows.proofs.Judging.{segment-by, mark-by, event-stands, no-event, end-stands, early, segment-stands, mark-stands, nothing-stands}
 use native.Mathlib.Omega.{arith}
 use borrow.Author.Needs.{needs}

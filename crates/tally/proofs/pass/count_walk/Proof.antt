@@ -5,7 +5,6 @@ use Rattle.walk.specs.Keeping.{Keeps}
 use Rattle.walk.proofs.Keeping.{keeps-blank}
 use Rattle.walk.proofs.Looking.{stands-held}
 use Rattle.zone.specs.Zone.{zoneOf}
-use mathlib.Core.Path.{_∙_}
 use lib.ListN.{length}
 use Prim.Native.Nat.{_+_}
 use native.Mathlib.Omega.{arith}

@@ -2,9 +2,8 @@ use native.Mathlib.Omega.{arith}
 use lib.ListN.{length}
 use mathlib.Core.Path.{_≡_, refl, _∙_}
 use mathlib.Core.Logic.{⊎-elim}
-use Prim.Native.Nat.{ℕ}
 use Rattle.walk.proofs.Keeping.{still, part-listed, part-governing}
-use Rattle.walk.specs.Keeping.{Keeps, KeepsFor}
+use Rattle.walk.specs.Keeping.{KeepsFor}
 use borrow.Author.Needs.{needs}
 use Rattle.walk.proofs.keep.governing_near.Statement.{statement}
 use Rattle.walk.proofs.keep.governing_near.Tie as tie

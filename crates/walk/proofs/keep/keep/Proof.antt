@@ -2,7 +2,7 @@ use lib.ListN.{length-set}
 use native.Mathlib.Omega.{arith}
 use mathlib.Core.Path.{refl}
 use Rattle.walk.proofs.Keeping.{kept-for}
-use Prim.Native.Nat.{ℕ, _+_, _-_}
+use Prim.Native.Nat.{_+_, _-_}
 use Rattle.day.proofs.Narrowing.{near-few}
 use borrow.Author.Needs.{needs}
 use Rattle.walk.proofs.keep.keep.Statement.{statement}
