@@ -76,6 +76,7 @@ fn store(
     let mut event: usize = 0;
     while at < book.len() {
         let kind = get2(book, at + KIND);
+        let next = at + 2 + get2(book, at) as usize;
         match kind {
             2 => {
                 ats[change] = (signed8(book, at + TRANSITION_INSTANT).0 - SECOND_ZERO) * SECOND_NS;
@@ -86,14 +87,14 @@ fn store(
             3 => {
                 rules[rule] = at as u32;
                 rule += 1;
-                at += 2 + get2(book, at) as usize;
+                at = next;
             }
             4 => {
                 events[event] = at as u32;
                 event += 1;
-                at += 2 + get2(book, at) as usize;
+                at = next;
             }
-            _ => at += 2 + get2(book, at) as usize,
+            _ => at = next,
         }
     }
     Counts {
