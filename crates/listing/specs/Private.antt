@@ -7,7 +7,8 @@ use lib.IntN.{ℤ}
 use lib.ListN.{length}
 use Rattle.wire.specs.Fields.{Inside, Put}
 use Rattle.rows.specs.Rows.{segments}
-use Rattle.timeline.specs.Asking.{windowNumber, windowAnswer}
+use Rattle.query.specs.Judging.{windowNumber}
+use Rattle.timeline.specs.Asking.{windowAnswer}
 use Rattle.listing.specs.Listing.{roomNumber, rowText, headLine}
 
 -- there is room for a text from `at` on

@@ -18,7 +18,8 @@ use Rattle.venue.specs.Opening.{instantOf}
 use Rattle.spans.specs.Spans.{look}
 use Rattle.query.proofs.Order.{Kept, window-passed}
 use Rattle.rows.specs.Rows as Rows
-use Rattle.timeline.specs.Asking.{windowNumber, windowAnswer}
+use Rattle.query.specs.Judging.{windowNumber}
+use Rattle.timeline.specs.Asking.{windowAnswer}
 use Rattle.point.specs.Asking.{pointAnswer}
 use Rattle.point.specs.Said.{pointSaid}
 use Rattle.plain.specs.Books.{Names, Between, Plain, Agreed}

@@ -16,10 +16,10 @@ use Rattle.records.specs.Valid.{Bytes}
 use Rattle.venue.specs.Opening.{instantOf}
 use Rattle.spans.specs.Spans.{Mark, look, segmentAt}
 use Rattle.day.specs.Days.{valuesOf}
-use Rattle.query.specs.Judging.{windowRefusal}
+use Rattle.query.specs.Judging.{windowRefusal, windowNumber}
 use Rattle.rows.specs.Rows as Rows
 use Rattle.timeline.specs.Segments.{segments, timelineOf}
-use Rattle.timeline.specs.Asking.{segmentsBy, windowNumber, windowAnswer}
+use Rattle.timeline.specs.Asking.{segmentsBy, windowAnswer}
 use Rattle.timeline.proofs.Seen.{row-look}
 use Rattle.point.specs.Asking.{pointNumber, pointAnswer}
 use Rattle.point.specs.Said.{pointSaid}

@@ -22,13 +22,13 @@ use Rattle.spans.specs.Timeline.{Part, inside}
 use Rattle.spans.specs.Totals.{isPhase, count, shows, free, total}
 use Rattle.spans.proofs.Totals.{same-count}
 use Rattle.day.specs.Days.{Values, valuesOf, pointOf}
-use Rattle.query.specs.Judging.{windowRefusal}
+use Rattle.query.specs.Judging.{windowRefusal, windowNumber}
 use Rattle.query.proofs.Order.{window-passed}
 use Rattle.answer.specs.Forms.{Form, day, tally, encodeAll}
 use Rattle.answer.specs.Meaning.{totalsOf}
 use Rattle.tell.specs.Shown.{Shown}
 use Rattle.timeline.specs.Segments.{segments, timelineOf}
-use Rattle.timeline.specs.Asking.{segmentsBy, windowNumber}
+use Rattle.timeline.specs.Asking.{segmentsBy}
 use Rattle.point.specs.Asking.{pointAnswer}
 use Rattle.point.specs.Said.{pointMark, pointSaid}
 use Rattle.point.proofs.Said.{point-said}

@@ -4,12 +4,14 @@ ghost use mathlib.Core.Bool.{cond};
 ghost use mathlib.Core.Option.{none, some};
 ghost use Rattle.records.specs.Book.{inside, instants};
 ghost use Rattle.venue.specs.Opening.{instantOf};
-ghost use Rattle.query.specs.Judging.{queried, windowOf};
+ghost use Rattle.query.specs.Judging.{queried, windowOf, judgedBy};
 use crate::Asked;
 use crate::EMPTY;
+use crate::Judged;
 use crate::OUTSIDE;
 use crate::REVERSED;
 use crate::Window;
+use venue::Opened;
 use wire::place;
 use zone::Instant;
 
@@ -50,6 +52,23 @@ pub fn asked_window(start: i64, end: i64) -> Window
                 }
                 Window::Between(a, b)
             }
+        },
+    }
+}
+
+// The book is judged before the window.
+pub fn judged_window(opened: Opened, start: i64, end: i64) -> Judged
+    ensures { λ r. ⌜ r ≡ judgedBy opened (windowOf start end) ⌝ }
+{
+    match opened {
+        Opened::Refused(n) => Judged::Refused(n),
+        Opened::Empty => match asked_window(start, end) {
+            Window::Refused(n) => Judged::Refused(n),
+            Window::Between(a, b) => Judged::Blank(a, b),
+        },
+        Opened::Venue(h) => match asked_window(start, end) {
+            Window::Refused(n) => Judged::Refused(n),
+            Window::Between(a, b) => Judged::Venue(h, a, b),
         },
     }
 }

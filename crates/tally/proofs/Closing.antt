@@ -10,26 +10,25 @@ use lib.IntN.{ℤ}
 use lib.ListN.{length}
 use Rattle.wire.specs.Fields.{Put}
 use Rattle.zone.specs.declared.Instant.{Instant}
-use Rattle.records.specs.Limits.{base}
 use Rattle.records.specs.Records.{Coverage}
-use Rattle.records.specs.Book.{refusal, records}
+use Rattle.records.specs.Book.{records}
 use Rattle.venue.specs.Opening.{instantOf, opened}
 use Rattle.venue.specs.declared.opened.Header.{Header}
-use Rattle.venue.specs.declared.opened.Opened.the-variants.{Refused, Empty}
 use Rattle.venue.proofs.Laws.{good-coverage}
-use Rattle.venue.proofs.Known.{opened-refused, opened-empty, Known}
+use Rattle.venue.proofs.Known.{Known}
 use Rattle.spans.specs.Spans.{Mark, Span}
 use Rattle.spans.specs.Timeline.{blank}
 use Rattle.day.specs.Days.{Values, valuesOf}
-use Rattle.query.specs.Judging.{windowRefusal, windowOf}
-use Rattle.query.specs.declared.Window.the-variants as Window
-use Rattle.query.proofs.Windows.{Windowed, window-refused}
+use Rattle.query.specs.Judging.{windowOf, windowNumber, judgedBy}
+use Rattle.query.specs.declared.Judged.the-variants.{Refused}
+use Rattle.query.proofs.Windows.{Windowed}
+use Rattle.query.proofs.Books.{Blanked, Named, judged-refused}
 use Rattle.answer.specs.Forms.{encodeAll}
 use Rattle.lend.specs.Lending.{Lent}
 use Rattle.lend.specs.declared.Reply.{Reply}
 use Rattle.lend.proofs.Replies.{lent-refused, lent-short, lent-written, lent-same, lent-reply}
 use Rattle.timeline.specs.Segments.{segments, timelineOf}
-use Rattle.timeline.specs.Asking.{segmentsBy, windowNumber}
+use Rattle.timeline.specs.Asking.{segmentsBy}
 use Rattle.pages.specs.Rows.{rowsOf, formsBy, mostNs}
 use Rattle.tally.specs.Tallying.{tallyAnswer, tooLong, tallyNumber}
 use Rattle.pages.specs.Pages.{marks, rawForms}
@@ -61,24 +60,15 @@ module _ (all : List (Span Mark)) (start end : ℕ) {room : List ℕ} {r : Reply
 -- ---- the number
 
 module _ (s : List ℕ) (m n : ℤ) where
-  window-book : (refusal base s ≡ 0 → ⊥) → windowNumber s m n ≡ refusal base s
-  unfolding windowNumber
-  window-book e = ap (λ (b : Bool). cond b (windowRefusal m n) (refusal base s)) (ne-eqb (refusal base s) 0 e)
-
-  window-window : refusal base s ≡ 0 → windowNumber s m n ≡ windowRefusal m n
-  unfolding windowNumber
-  window-window z = ap (λ (b : Bool). cond b (windowRefusal m n) (refusal base s)) (eq-eqb (refusal base s) 0 z)
-
-  other-number : {x : ℕ} → windowNumber s m n ≡ x → (x ≡ 0 → ⊥) → x ≡ tallyNumber s m n
+  of-window : (windowNumber s m n ≡ 0 → ⊥) → windowNumber s m n ≡ tallyNumber s m n
   unfolding tallyNumber
-  other-number {x} e f = sym (ap (λ (b : Bool). cond b (tooLong (instantOf m) (instantOf n)) (windowNumber s m n)) (ne-eqb (windowNumber s m n) 0 (λ z. f (sym e ∙ z))) ∙ e)
+  of-window f = sym (ap (λ (b : Bool). cond b (tooLong (instantOf m) (instantOf n)) (windowNumber s m n)) (ne-eqb (windowNumber s m n) 0 f))
 
-  long-number : windowNumber s m n ≡ 0 → tooLong (instantOf m) (instantOf n) ≡ tallyNumber s m n
+  of-length : windowNumber s m n ≡ 0 → {a b : Instant} → Windowed m n a b → tooLong (a .0) (b .0) ≡ tallyNumber s m n
   unfolding tallyNumber
-  long-number e = sym (ap (λ (b : Bool). cond b (tooLong (instantOf m) (instantOf n)) (windowNumber s m n)) (eq-eqb (windowNumber s m n) 0 e))
-
-  passed : {a b : Instant} → Windowed m n a b → refusal base s ≡ 0 → tooLong (a .0) (b .0) ≡ tallyNumber s m n
-  passed i z = ap₂ tooLong (i .start) (i .end) ∙ long-number (window-window z ∙ i .passed)
+  of-length z i =
+      ap₂ tooLong (i .start) (i .end)
+      ∙ sym (ap (λ (b : Bool). cond b (tooLong (instantOf m) (instantOf n)) (windowNumber s m n)) (eq-eqb (windowNumber s m n) 0 z))
 
 -- ---- the cases
 
@@ -86,44 +76,38 @@ pub known-covers : {s : List ℕ} {h : Header} → Known s h → h .start .0 < h
 known-covers {s} k = subst (λ (x : Header). x .start .0 < x .end .0) (sym (k .header)) (good-coverage s (k .accepted) (k .covered) (k .is) .order)
 
 module _ (s : List ℕ) (m n : ℤ) {room : List ℕ} {r : Reply} where
-  -- the book is refused
-  pub close-refused : (x : ℕ) → Refused x ≡ opened s → r ≡ record { number = x; length = 0 } → Lent (tallyNumber s m n) (tallyAnswer s m n) room room r
-  close-refused x e q =
-      let o = opened-refused s x e in
-      let f : x ≡ 0 → ⊥ = λ z. o .1 (sym (o .0) ∙ z) in
-      lent-same (lent-reply (lent-refused (tallyAnswer s m n) room f) q) (other-number s m n (window-book s m n (o .1) ∙ sym (o .0)) f) refl
-
-  -- the window is refused
-  pub close-window : refusal base s ≡ 0 → (x : ℕ) → Window.Refused x ≡ windowOf m n → r ≡ record { number = x; length = 0 }
+  -- the book or the window is refused
+  pub close-refused : {k : ℕ} → Refused k ≡ judgedBy (opened s) (windowOf m n) → r ≡ record { number = k; length = 0 }
       → Lent (tallyNumber s m n) (tallyAnswer s m n) room room r
-  close-window z x e q =
-      let o = window-refused m n e in
-      lent-same (lent-reply (lent-refused (tallyAnswer s m n) room (o .1)) q) (other-number s m n (window-window s m n z ∙ sym (o .0)) (o .1)) refl
+  close-refused e q =
+      let j = judged-refused s m n e in
+      lent-same (lent-reply (lent-refused (tallyAnswer s m n) room (j .1)) q) (j .0 ∙ of-window s m n (λ z. j .1 (j .0 ∙ z))) refl
 
-  module _ {left : List ℕ} {a b : Instant} (i : Windowed m n a b) where
+  module _ {left : List ℕ} {a b : Instant} where
     -- a venue without data
-    pub close-empty : Empty ≡ opened s → Lent (tooLong (a .0) (b .0)) (encodeAll (rawForms (rawBlank (a .0) (b .0)) (a .0) (b .0))) room left r
+    pub close-empty : Blanked s m n a b → Lent (tooLong (a .0) (b .0)) (encodeAll (rawForms (rawBlank (a .0) (b .0)) (a .0) (b .0))) room left r
         → Lent (tallyNumber s m n) (tallyAnswer s m n) room left r
     unfolding tallyAnswer
-    close-empty o w =
-        let c = opened-empty s o in
+    close-empty j w =
         let x = instantOf m in
         let y = instantOf n in
-        lent-same w (passed s m n i (c .0))
-        (ap₂ (λ (u v : ℕ). encodeAll (rawForms (rawBlank u v) u v)) (i .start) (i .end)
+        lent-same w (of-length s m n (j .passed) (j .window))
+        (ap₂ (λ (u v : ℕ). encodeAll (rawForms (rawBlank u v) u v)) (j .window .start) (j .window .end)
         ∙ ap encodeAll (same-forms marks segments (rawBlank x y) (blank none (record { start = x; end = y })) (blank-total x y) x y)
-        ∙ sym (ap (λ (u : Option Coverage). encodeAll (formsBy segments (segmentsBy (records s) (record { start = x; end = y }) u) x y)) (c .1)))
+        ∙ sym (ap (λ (u : Option Coverage). encodeAll (formsBy segments (segmentsBy (records s) (record { start = x; end = y }) u) x y)) (j .uncovered)))
 
     -- a venue
-    pub close-venue : {h : Header} (k : Known s h) (v : Values) → v ≡ valuesOf (records s) (k .covered)
+    pub close-venue : {h : Header} (j : Named s m n h a b) (v : Values) → v ≡ valuesOf (records s) (j .known .covered)
         → Lent (tooLong (a .0) (b .0)) (encodeAll (rawForms (rawOf v (a .0) (b .0)) (a .0) (b .0))) room left r → Lent (tallyNumber s m n) (tallyAnswer s m n) room left r
     unfolding tallyAnswer
-    close-venue {h} k v q w =
+    close-venue {h} j v q w =
+        let k = j .known in
+        let i = j .window in
         let x = instantOf m in
         let y = instantOf n in
         let g = valuesOf (records s) (k .covered) in
         let before : x < y = let p = i .start in let o = i .end in let d = i .order in omega arith in
-        lent-same w (passed s m n i (k .accepted))
+        lent-same w (of-length s m n (j .passed) i)
         (ap (λ (u : Values). encodeAll (rawForms (rawOf u (a .0) (b .0)) (a .0) (b .0))) q
         ∙ ap₂ (λ (u o : ℕ). encodeAll (rawForms (rawOf g u o) u o)) (i .start) (i .end)
         ∙ ap encodeAll (same-forms marks segments (rawOf g x y) (timelineOf g (record { start = x; end = y })) (raw-total g x y (good-coverage s (k .accepted) (k .covered) (k .is) .order) before) x y)

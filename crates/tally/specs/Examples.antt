@@ -15,9 +15,8 @@ use Rattle.spans.specs.Spans.{keep, clip, reach, joined, joinFrom}
 use Rattle.spans.specs.Timeline.{cut, spans, walk, unjoined, timeline}
 use Rattle.spans.specs.Totals.{total}
 use Rattle.day.specs.Governing.{governingFrom}
-use Rattle.query.specs.Judging.{windowRefusal}
+use Rattle.query.specs.Judging.{windowRefusal, windowNumber}
 use Rattle.answer.specs.Forms.{day, tally}
-use Rattle.timeline.specs.Asking.{windowNumber}
 use Rattle.pages.specs.Rows.{rowsFrom}
 use Rattle.tally.specs.Tallying.{tallyForms, tallyNumber}
 

@@ -7,7 +7,8 @@ use lib.IntN.{ℤ}
 use Rattle.venue.specs.Opening.{instantOf}
 use Rattle.answer.specs.Forms.{Form, encodeAll}
 use Rattle.timeline.specs.Segments.{segments}
-use Rattle.timeline.specs.Asking.{segmentsOf, windowNumber}
+use Rattle.query.specs.Judging.{windowNumber}
+use Rattle.timeline.specs.Asking.{segmentsOf}
 use Rattle.pages.specs.Rows.{formsBy, mostNs}
 
 abbrev pub tallyForms : List ℕ → ℤ → ℤ → List Form

@@ -17,8 +17,8 @@ use lend::answered;
 use lend::refused;
 use pages::DAY_NS;
 use pages::tally_size;
-use query::Window;
-use query::asked_window;
+use query::Judged;
+use query::judged_window;
 use venue::Header;
 use venue::Opened;
 use venue::open;
@@ -86,31 +86,25 @@ fn tell_opened(
     requires { ⌜ Filled (now book) opened (now ats) (now offsets) (now rules) (now events) ⌝ }
     ensures { λ r. ⌜ Lent (tallyNumber (now (book .entry)) start end) (tallyAnswer (now (book .entry)) start end) (now (out .entry)) (now (out .exit)) r ⌝ }
 {
-    match opened {
-        Opened::Refused(n) => refused(n),
-        Opened::Empty => match asked_window(start, end) {
-            Window::Refused(n) => refused(n),
-            Window::Between(a, b) => tell_blank(a, b, out),
-        },
-        Opened::Venue(h) => match asked_window(start, end) {
-            Window::Refused(n) => refused(n),
-            Window::Between(a, b) => {
-                let transitions = h.transitions;
-                let many_rules = h.rules;
-                let many_events = h.events;
-                tell_tally(
-                    book,
-                    h,
-                    &ats[..transitions],
-                    &offsets[..transitions],
-                    &rules[..many_rules],
-                    &events[..many_events],
-                    a,
-                    b,
-                    out,
-                )
-            }
-        },
+    match judged_window(opened, start, end) {
+        Judged::Refused(n) => refused(n),
+        Judged::Blank(a, b) => tell_blank(a, b, out),
+        Judged::Venue(h, a, b) => {
+            let transitions = h.transitions;
+            let many_rules = h.rules;
+            let many_events = h.events;
+            tell_tally(
+                book,
+                h,
+                &ats[..transitions],
+                &offsets[..transitions],
+                &rules[..many_rules],
+                &events[..many_events],
+                a,
+                b,
+                out,
+            )
+        }
     }
 }
 

@@ -1,25 +1,21 @@
 -- The cases of a window query come together: each leaves what document 01 says. Assumes nothing.
 use mathlib.Core.Path.{_≡_, refl, sym, ap, ap₂, _∙_}
-use mathlib.Core.Bool.{Bool, cond}
 use mathlib.Core.List.{List}
 use mathlib.Core.Option.{Option, none, some}
 use Prim.Native.Nat.{ℕ}
-use borrow.Author.Tests.{eq-eqb, ne-eqb}
 use lib.IntN.{ℤ}
 use Rattle.zone.specs.declared.Instant.{Instant}
-use Rattle.records.specs.Limits.{base}
 use Rattle.records.specs.Records.{Coverage}
-use Rattle.records.specs.Book.{refusal, records}
+use Rattle.records.specs.Book.{records}
 use Rattle.venue.specs.Opening.{instantOf, opened}
 use Rattle.venue.specs.declared.opened.Header.{Header}
-use Rattle.venue.specs.declared.opened.Opened.the-variants.{Refused, Empty}
 use Rattle.venue.proofs.Laws.{good-coverage}
-use Rattle.venue.proofs.Known.{opened-refused, opened-empty, Known, start-number, end-number}
+use Rattle.venue.proofs.Known.{Known, start-number, end-number}
 use Rattle.spans.specs.Timeline.{Part, blank}
 use Rattle.day.specs.Days.{Values, valuesOf}
-use Rattle.query.specs.Judging.{windowRefusal, windowOf}
-use Rattle.query.specs.declared.Window.the-variants as Window
-use Rattle.query.proofs.Windows.{Windowed, window-refused}
+use Rattle.query.specs.Judging.{windowOf, windowNumber, judgedBy}
+use Rattle.query.specs.declared.Judged.the-variants.{Refused}
+use Rattle.query.proofs.Books.{Blanked, Named, judged-refused}
 use Rattle.answer.specs.Forms.{Cover, encodeAll}
 use Rattle.answer.specs.Meaning.{coverOf}
 use Rattle.answer.specs.declared.Covered.the-variants.{Between}
@@ -27,19 +23,9 @@ use Rattle.lend.specs.Lending.{Lent}
 use Rattle.lend.specs.declared.Reply.{Reply}
 use Rattle.lend.proofs.Replies.{lent-refused, lent-same, lent-reply}
 use Rattle.timeline.specs.Segments.{timelineOf}
-use Rattle.timeline.specs.Asking.{timelineForms, byCoverage, windowForms, windowNumber, windowAnswer}
+use Rattle.timeline.specs.Asking.{timelineForms, byCoverage, windowForms, windowAnswer}
 use Rattle.timeline.specs.Private.{gapForms, told}
 use Rattle.timeline.proofs.Parts.{told-timeline}
-
--- ---- the number
-
-number-book : (s : List ℕ) (m n : ℤ) → (refusal base s ≡ 0 → ⊥) → refusal base s ≡ windowNumber s m n
-unfolding windowNumber
-number-book s m n e = sym (ap (λ (b : Bool). cond b (windowRefusal m n) (refusal base s)) (ne-eqb (refusal base s) 0 e))
-
-number-window : (s : List ℕ) (m n : ℤ) → refusal base s ≡ 0 → windowRefusal m n ≡ windowNumber s m n
-unfolding windowNumber
-number-window s m n z = sym (ap (λ (b : Bool). cond b (windowRefusal m n) (refusal base s)) (eq-eqb (refusal base s) 0 z))
 
 -- ---- what is told is document 01's answer
 
@@ -61,33 +47,27 @@ told-is {s} {h} k m n v e =
 -- ---- the cases
 
 module _ (s : List ℕ) (m n : ℤ) {room : List ℕ} {r : Reply} where
-  -- the book is refused
-  pub close-refused : (x : ℕ) → Refused x ≡ opened s → r ≡ record { number = x; length = 0 } → Lent (windowNumber s m n) (windowAnswer s m n) room room r
-  close-refused x e q =
-      let o = opened-refused s x e in
-      lent-same (lent-reply (lent-refused (windowAnswer s m n) room (λ z. o .1 (sym (o .0) ∙ z))) q) (o .0 ∙ number-book s m n (o .1)) refl
-
-  -- the window is refused
-  pub close-window : refusal base s ≡ 0 → (x : ℕ) → Window.Refused x ≡ windowOf m n → r ≡ record { number = x; length = 0 }
+  -- the book or the window is refused
+  pub close-refused : {k : ℕ} → Refused k ≡ judgedBy (opened s) (windowOf m n) → r ≡ record { number = k; length = 0 }
       → Lent (windowNumber s m n) (windowAnswer s m n) room room r
-  close-window z x e q =
-      let o = window-refused m n e in
-      lent-same (lent-reply (lent-refused (windowAnswer s m n) room (o .1)) q) (o .0 ∙ number-window s m n z) refl
+  close-refused e q =
+      let j = judged-refused s m n e in
+      lent-same (lent-reply (lent-refused (windowAnswer s m n) room (j .1)) q) (j .0) refl
 
-  module _ {left : List ℕ} {a b : Instant} (i : Windowed m n a b) where
+  module _ {left : List ℕ} {a b : Instant} where
     -- a venue without data
-    pub close-empty : Empty ≡ opened s → Lent 0 (encodeAll (gapForms none (a .0) (b .0))) room left r → Lent (windowNumber s m n) (windowAnswer s m n) room left r
+    pub close-empty : Blanked s m n a b → Lent 0 (encodeAll (gapForms none (a .0) (b .0))) room left r → Lent (windowNumber s m n) (windowAnswer s m n) room left r
     unfolding windowAnswer blank
-    close-empty o w =
-        let c = opened-empty s o in
+    close-empty j w =
         let p : Part = record { start = instantOf m; end = instantOf n } in
-        lent-same w (sym (i .passed) ∙ number-window s m n (c .0))
-        (ap₂ (λ (x y : ℕ). encodeAll (gapForms none x y)) (i .start) (i .end) ∙ sym (ap (λ (x : Option Coverage). encodeAll (byCoverage (records s) p x)) (c .1)))
+        lent-same w (sym (j .passed))
+        (ap₂ (λ (x y : ℕ). encodeAll (gapForms none x y)) (j .window .start) (j .window .end)
+        ∙ sym (ap (λ (x : Option Coverage). encodeAll (byCoverage (records s) p x)) (j .uncovered)))
 
     -- a venue
-    pub close-venue : {h : Header} (k : Known s h) (v : Values) → v ≡ valuesOf (records s) (k .covered)
+    pub close-venue : {h : Header} (j : Named s m n h a b) (v : Values) → v ≡ valuesOf (records s) (j .known .covered)
         → Lent 0 (encodeAll (told v (Between (h .start) (h .end)) (a .0) (b .0))) room left r → Lent (windowNumber s m n) (windowAnswer s m n) room left r
     unfolding windowAnswer
-    close-venue {h} k v q w =
-        lent-same w (sym (i .passed) ∙ number-window s m n (k .accepted))
-        (ap₂ (λ (x y : ℕ). encodeAll (told v (Between (h .start) (h .end)) x y)) (i .start) (i .end) ∙ ap encodeAll (told-is k m n v q))
+    close-venue {h} j v q w =
+        lent-same w (sym (j .passed))
+        (ap₂ (λ (x y : ℕ). encodeAll (told v (Between (h .start) (h .end)) x y)) (j .window .start) (j .window .end) ∙ ap encodeAll (told-is (j .known) m n v q))

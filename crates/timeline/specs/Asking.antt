@@ -1,26 +1,18 @@
--- The window's answer in bytes: which number a question gets, and what is answered. Assumes nothing.
+-- The window's answer in bytes. Assumes nothing.
 use Prim.Native.Nat.{ℕ}
-use mathlib.Core.Bool.{cond}
 use mathlib.Core.List.{List, [], _∷_, _++_}
 use mathlib.Core.Option.{Option, none, some}
-use lib.Dec.{eqb}
 use lib.IntN.{ℤ}
 use Rattle.zone.specs.Units.{instantNumber}
-use Rattle.records.specs.Limits.{base}
 use Rattle.records.specs.Records.{Coverage, Record}
-use Rattle.records.specs.Book.{refusal, records}
+use Rattle.records.specs.Book.{records}
 use Rattle.venue.specs.Opening.{instantOf, coverageOf}
 use Rattle.spans.specs.Spans.{Span}
 use Rattle.spans.specs.Timeline.{Part, blank}
 use Rattle.day.specs.Days.{valuesOf}
-use Rattle.query.specs.Judging.{windowRefusal}
 use Rattle.answer.specs.Forms.{Cover, Form, unknown, encodeAll}
 use Rattle.tell.specs.Shown.{Shown, shownForms}
 use Rattle.timeline.specs.Segments.{timelineOf}
-
--- the book's number, else the window's: 10, 11, 12
-unfoldable pub windowNumber : List ℕ → ℤ → ℤ → ℕ
-windowNumber s start end = cond (eqb (refusal base s) 0) (windowRefusal start end) (refusal base s)
 
 -- kind 17, or kind 16 with its 18s
 abbrev pub segmentForms : Option Cover → ℕ → ℕ → Option Shown → List Form

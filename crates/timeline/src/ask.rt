@@ -11,7 +11,8 @@ ghost use Rattle.day.specs.Meaning.{valuesAt};
 ghost use Rattle.answer.specs.Meaning.{coverOf};
 ghost use Rattle.answer.specs.declared.Covered.the-variants.{Between};
 ghost use Rattle.lend.specs.Lending.{Lent};
-ghost use Rattle.timeline.specs.Asking.{windowNumber, windowAnswer};
+ghost use Rattle.query.specs.Judging.{windowNumber};
+ghost use Rattle.timeline.specs.Asking.{windowAnswer};
 ghost use Rattle.timeline.specs.Private.{gapForms, told};
 use answer::Covered;
 use answer::GAP_BYTES;
@@ -24,8 +25,8 @@ use lend::Reply;
 use lend::answered;
 use lend::refused;
 use passes::put_walk;
-use query::Window;
-use query::asked_window;
+use query::Judged;
+use query::judged_window;
 use spans::earlier;
 use spans::later;
 use venue::Header;
@@ -113,31 +114,25 @@ fn tell_opened(
     requires { ⌜ Filled (now book) opened (now ats) (now offsets) (now rules) (now events) ⌝ }
     ensures { λ r. ⌜ Lent (windowNumber (now (book .entry)) start end) (windowAnswer (now (book .entry)) start end) (now (out .entry)) (now (out .exit)) r ⌝ }
 {
-    match opened {
-        Opened::Refused(n) => refused(n),
-        Opened::Empty => match asked_window(start, end) {
-            Window::Refused(n) => refused(n),
-            Window::Between(a, b) => tell_empty(a, b, out),
-        },
-        Opened::Venue(h) => match asked_window(start, end) {
-            Window::Refused(n) => refused(n),
-            Window::Between(a, b) => {
-                let transitions = h.transitions;
-                let many_rules = h.rules;
-                let many_events = h.events;
-                tell_venue(
-                    book,
-                    h,
-                    &ats[..transitions],
-                    &offsets[..transitions],
-                    &rules[..many_rules],
-                    &events[..many_events],
-                    a,
-                    b,
-                    out,
-                )
-            }
-        },
+    match judged_window(opened, start, end) {
+        Judged::Refused(n) => refused(n),
+        Judged::Blank(a, b) => tell_empty(a, b, out),
+        Judged::Venue(h, a, b) => {
+            let transitions = h.transitions;
+            let many_rules = h.rules;
+            let many_events = h.events;
+            tell_venue(
+                book,
+                h,
+                &ats[..transitions],
+                &offsets[..transitions],
+                &rules[..many_rules],
+                &events[..many_events],
+                a,
+                b,
+                out,
+            )
+        }
     }
 }
 

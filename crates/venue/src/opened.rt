@@ -12,6 +12,7 @@ use records::COVERAGE_END;
 use records::COVERAGE_OFFSET;
 use records::COVERAGE_START;
 use records::KIND;
+use records::TRANSITION;
 use records::TRANSITION_BYTES;
 use records::TRANSITION_INSTANT;
 use records::TRANSITION_OFFSET;
@@ -76,14 +77,15 @@ fn store(
     let mut event: usize = 0;
     while at < book.len() {
         let kind = get2(book, at + KIND);
+        if kind == TRANSITION {
+            ats[change] = (signed8(book, at + TRANSITION_INSTANT).0 - SECOND_ZERO) * SECOND_NS;
+            offsets[change] = signed4(book, at + TRANSITION_OFFSET).0 - OFFSET_ZERO;
+            change += 1;
+            at += TRANSITION_BYTES;
+            continue;
+        }
         let next = at + 2 + get2(book, at) as usize;
         match kind {
-            2 => {
-                ats[change] = (signed8(book, at + TRANSITION_INSTANT).0 - SECOND_ZERO) * SECOND_NS;
-                offsets[change] = signed4(book, at + TRANSITION_OFFSET).0 - OFFSET_ZERO;
-                change += 1;
-                at += TRANSITION_BYTES;
-            }
             3 => {
                 rules[rule] = at as u32;
                 rule += 1;

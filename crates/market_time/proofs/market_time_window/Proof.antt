@@ -1,4 +1,5 @@
-use Rattle.timeline.specs.Asking.{windowNumber, windowAnswer}
+use Rattle.query.specs.Judging.{windowNumber}
+use Rattle.timeline.specs.Asking.{windowAnswer}
 use Rattle.lend.proofs.Replies.{lent-same}
 use mir.ValLaws.{toZ-ofZ}
 use mir.Syntax.{w64}

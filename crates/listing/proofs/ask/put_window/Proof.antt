@@ -1,7 +1,8 @@
 use Prim.Native.Nat.{ℕ}
 use Rattle.listing.proofs.Asking.{Answered, refused-text, answered, puts-text}
 use Rattle.listing.proofs.Bounds.{head-fits}
-use Rattle.timeline.specs.Asking.{windowNumber, windowAnswer}
+use Rattle.query.specs.Judging.{windowNumber}
+use Rattle.timeline.specs.Asking.{windowAnswer}
 use Rattle.lend.proofs.Replies.{lent-same}
 use lib.ListN.{length-replicate}
 use mir.Syntax.{w64}

@@ -1,7 +1,7 @@
 use Rattle.point.proofs.Closing.{close-refused, close-outside, close-empty, close-venue}
 use Rattle.query.proofs.Instants.{asked-outside, asked-in}
 use Rattle.day.proofs.Opened.{front-values}
-use Rattle.venue.proofs.Known.{opened-empty, opened-venue}
+use Rattle.venue.proofs.Known.{Known, opened-empty, opened-venue}
 use Rattle.venue.proofs.Fronts.{ats-in, offsets-in, rules-in, events-in, front-ready}
 use lib.Seq.{length-take-le}
 use mathlib.Core.Path.{sym, _∙_}
@@ -9,39 +9,34 @@ use borrow.Author.Needs.{needs}
 use Rattle.point.proofs.reply.tell_opened.Statement.{statement}
 use Rattle.point.proofs.reply.tell_opened.Tie as tie
 
+-- of a venue
+known : (c : tie.After-opened2) → Known (c .before .before .before .before .before .before .before .before .args .book .now) (c .opened2 .given .0 .0)
+known c = opened-venue _ _ (sym (c .opened2 .given .1) ∙ (c .before .before .before .before .before .before .before .before .pre) .answer)
+
 slice-aggregate-tell-venue : tie.Need-slice-aggregate-tell-venue
 slice-aggregate-tell-venue c =
     let at-opened2 = c .before .before .before .before .before .before in
-    let at-start = at-opened2 .before .before .before .before .before .before .before .before in
-    sym (length-take-le _ _
-    (ats-in (at-start .pre) (opened-venue (at-start .args .book .now) _ (sym (at-opened2 .opened2 .given .1) ∙ (at-start .pre) .answer))))
+    sym (length-take-le _ _ (ats-in (at-opened2 .before .before .before .before .before .before .before .before .pre) (known at-opened2)))
 
 slice-aggregate-tell-venue-2 : tie.Need-slice-aggregate-tell-venue-2
 slice-aggregate-tell-venue-2 c =
     let at-opened2 = c .before .before .before .before .before .before .before in
-    let at-start = at-opened2 .before .before .before .before .before .before .before .before in
-    sym (length-take-le _ _
-    (offsets-in (at-start .pre) (opened-venue (at-start .args .book .now) _ (sym (at-opened2 .opened2 .given .1) ∙ (at-start .pre) .answer))))
+    sym (length-take-le _ _ (offsets-in (at-opened2 .before .before .before .before .before .before .before .before .pre) (known at-opened2)))
 
 slice-aggregate-tell-venue-3 : tie.Need-slice-aggregate-tell-venue-3
 slice-aggregate-tell-venue-3 c =
     let at-opened2 = c .before .before .before .before .before .before .before .before in
-    let at-start = at-opened2 .before .before .before .before .before .before .before .before in
-    sym (length-take-le _ _
-    (rules-in (at-start .pre) (opened-venue (at-start .args .book .now) _ (sym (at-opened2 .opened2 .given .1) ∙ (at-start .pre) .answer))))
+    sym (length-take-le _ _ (rules-in (at-opened2 .before .before .before .before .before .before .before .before .pre) (known at-opened2)))
 
 slice-aggregate-tell-venue-4 : tie.Need-slice-aggregate-tell-venue-4
 slice-aggregate-tell-venue-4 c =
     let at-opened2 = c .before .before .before .before .before .before .before .before .before in
-    let at-start = at-opened2 .before .before .before .before .before .before .before .before in
-    sym (length-take-le _ _
-    (events-in (at-start .pre) (opened-venue (at-start .args .book .now) _ (sym (at-opened2 .opened2 .given .1) ∙ (at-start .pre) .answer))))
+    sym (length-take-le _ _ (events-in (at-opened2 .before .before .before .before .before .before .before .before .pre) (known at-opened2)))
 
 tell-venue-requires : tie.Need-tell-venue-requires
 tell-venue-requires c κs =
     let at-opened2 = c .before .before .before .before .before .before .before .before .before .before in
-    let at-start = at-opened2 .before .before .before .before .before .before .before .before in
-    front-ready (at-start .pre) (opened-venue ((at-start .args .book) .now) _ (sym ((at-opened2 .opened2 .given) .1) ∙ (at-start .pre) .answer))
+    front-ready (at-opened2 .before .before .before .before .before .before .before .before .pre) (known at-opened2)
 
 returns : tie.Need-returns
 returns c =
@@ -80,7 +75,7 @@ returns-4 c =
     let at-opened2 = at-asked-at2 .before .before in
     let at-start = at-opened2 .before .before .before .before .before .before .before .before in
     close-outside (at-start .args .book .now) (at-start .args .at)
-    ((opened-venue (at-start .args .book .now) _ (sym (at-opened2 .opened2 .given .1) ∙ (at-start .pre) .answer)) .accepted)
+    (known at-opened2 .accepted)
     (asked-outside _ (at-start .fits .at) (at-asked-at2 .asked-at2 .ensures) (at-enum-told3 .enum-told3 .given .1)) (at-refused3 .refused3 .ensures)
 
 returns-5 : tie.Need-returns-5
@@ -90,9 +85,8 @@ returns-5 c =
     let at-asked-at2 = at-t2 .before .before in
     let at-opened2 = at-asked-at2 .before .before in
     let at-start = at-opened2 .before .before .before .before .before .before .before .before in
-    let known = opened-venue (at-start .args .book .now) _ (sym (at-opened2 .opened2 .given .1) ∙ (at-start .pre) .answer) in
     close-venue (at-start .args .book .now) (at-start .args .at)
-    (asked-in _ (at-start .fits .at) (at-asked-at2 .asked-at2 .ensures) (at-t2 .t2 .given .1)) known _ (front-values (at-start .pre) known)
+    (asked-in _ (at-start .fits .at) (at-asked-at2 .asked-at2 .ensures) (at-t2 .t2 .given .1)) (known at-opened2) _ (front-values (at-start .pre) (known at-opened2))
     (at-tell-venue .tell-venue .ensures)
 
 pub tell-opened-spec : {M : Type 1} → statement M

@@ -1,194 +1,95 @@
-use mathlib.Core.Path.{sym, ap₂, _∙_}
-use mir.Syntax.{w64}
-use mir.ValLaws.{toZ-ofZ}
-use Rattle.query.specs.Judging.{windowOf}
+use mathlib.Core.Path.{_≡_, sym, _∙_}
 use lib.Seq.{length-take-le}
+use Rattle.venue.specs.Opening.{opened}
 use Rattle.venue.proofs.Fronts.{ats-in, offsets-in, rules-in, events-in, front-ready}
-use Rattle.venue.proofs.Known.{opened-empty, opened-venue}
 use Rattle.day.proofs.Opened.{front-values}
-use Rattle.query.proofs.Windows.{window-between}
-use Rattle.tally.proofs.Closing.{known-covers, close-refused, close-window, close-empty, close-venue}
+use Rattle.query.specs.Judging.{windowOf, judgedBy}
+use Rattle.query.proofs.Books.{Named, judged-as, judged-blank, judged-venue}
+use Rattle.tally.proofs.Closing.{known-covers, close-refused, close-empty, close-venue}
 use borrow.Author.Needs.{needs}
 use Rattle.tally.proofs.ask.tell_opened.Statement.{statement}
 use Rattle.tally.proofs.ask.tell_opened.Tie as tie
 
-enum-known-opened : tie.Need-enum-known-opened
-enum-known-opened c = search needs
+-- what is judged is the book's opening and the window
+asked : (c : tie.After-judged-window)
+    → let args = c .before .before .before .before .before .before .before .args in
+    c .judged-window .result ≡ judgedBy (opened (args .book .now)) (windowOf (args .start) (args .end))
+asked c =
+    let at-start = c .before .before .before .before .before .before .before in
+    judged-as (at-start .args .book .now) (at-start .args .start) (at-start .args .end) (at-start .fits .start) (at-start .fits .end) (at-start .pre .answer) (c .judged-window .ensures)
 
-refused-requires : tie.Need-refused-requires
-refused-requires c κs = tt
-
-enum-told : tie.Need-enum-told
-enum-told c = search needs
-
-asked-window-requires : tie.Need-asked-window-requires
-asked-window-requires c κs = tt
-
-enum-known-n : tie.Need-enum-known-n
-enum-known-n c = search needs
-
-refused-requires-2 : tie.Need-refused-requires-2
-refused-requires-2 c κs = tt
-
-enum-known-a : tie.Need-enum-known-a
-enum-known-a c = search needs
+-- of a venue
+named : (c : tie.After-h)
+    → let args = c .before .before .before .before .before .before .before .before .before .args in
+    Named (args .book .now) (args .start) (args .end) (c .h .given .0 .0) (c .h .given .0 .1 .0) (c .h .given .0 .1 .1 .0)
+named c = judged-venue _ _ _ (sym (c .h .given .1) ∙ asked (c .before .before))
 
 tell-blank-requires : tie.Need-tell-blank-requires
 tell-blank-requires c κs =
     let at-a = c .before .before in
-    let at-asked-window = at-a .before .before in
-    let at-start = at-asked-window .before .before .before .before .before .before .before .before .before in
-    let args = at-start .args in
-    window-between (args .start) (args .end) (sym (at-a .a .given .1) ∙ (at-asked-window .asked-window .ensures) ∙ ap₂ windowOf
-    (toZ-ofZ w64 (args .start) (at-start .fits .start)) (toZ-ofZ w64 (args .end) (at-start .fits .end))) .order
-
-enum-known-opened-2 : tie.Need-enum-known-opened-2
-enum-known-opened-2 c = search needs
-
-asked-window-requires-2 : tie.Need-asked-window-requires-2
-asked-window-requires-2 c κs = tt
-
-enum-known-n-2 : tie.Need-enum-known-n-2
-enum-known-n-2 c = search needs
-
-refused-requires-3 : tie.Need-refused-requires-3
-refused-requires-3 c κs = tt
-
-enum-known-a-2 : tie.Need-enum-known-a-2
-enum-known-a-2 c = search needs
+    judged-blank _ _ _ (sym (at-a .a .given .1) ∙ asked (at-a .before .before)) .window .order
 
 slice-aggregate-tell-tally : tie.Need-slice-aggregate-tell-tally
 slice-aggregate-tell-tally c =
-    let at-opened2 = c .before .before .before .before .before .before in
-    let at-start = at-opened2 .before .before .before .before .before .before .before .before in
-    sym (length-take-le _ _
-    (ats-in (at-start .pre) (opened-venue (at-start .args .book .now) _ (sym (at-opened2 .opened2 .given .1) ∙ (at-start .pre) .answer))))
+    let at-h = c .before .before in
+    sym (length-take-le _ _ (ats-in (at-h .before .before .before .before .before .before .before .before .before .pre) (named at-h .known)))
 
 slice-aggregate-tell-tally-2 : tie.Need-slice-aggregate-tell-tally-2
 slice-aggregate-tell-tally-2 c =
-    let at-opened2 = c .before .before .before .before .before .before .before in
-    let at-start = at-opened2 .before .before .before .before .before .before .before .before in
-    sym (length-take-le _ _
-    (offsets-in (at-start .pre) (opened-venue (at-start .args .book .now) _ (sym (at-opened2 .opened2 .given .1) ∙ (at-start .pre) .answer))))
+    let at-h = c .before .before .before in
+    sym (length-take-le _ _ (offsets-in (at-h .before .before .before .before .before .before .before .before .before .pre) (named at-h .known)))
 
 slice-aggregate-tell-tally-3 : tie.Need-slice-aggregate-tell-tally-3
 slice-aggregate-tell-tally-3 c =
-    let at-opened2 = c .before .before .before .before .before .before .before .before in
-    let at-start = at-opened2 .before .before .before .before .before .before .before .before in
-    sym (length-take-le _ _
-    (rules-in (at-start .pre) (opened-venue (at-start .args .book .now) _ (sym (at-opened2 .opened2 .given .1) ∙ (at-start .pre) .answer))))
+    let at-h = c .before .before .before .before in
+    sym (length-take-le _ _ (rules-in (at-h .before .before .before .before .before .before .before .before .before .pre) (named at-h .known)))
 
 slice-aggregate-tell-tally-4 : tie.Need-slice-aggregate-tell-tally-4
 slice-aggregate-tell-tally-4 c =
-    let at-opened2 = c .before .before .before .before .before .before .before .before .before in
-    let at-start = at-opened2 .before .before .before .before .before .before .before .before in
-    sym (length-take-le _ _
-    (events-in (at-start .pre) (opened-venue (at-start .args .book .now) _ (sym (at-opened2 .opened2 .given .1) ∙ (at-start .pre) .answer))))
+    let at-h = c .before .before .before .before .before in
+    sym (length-take-le _ _ (events-in (at-h .before .before .before .before .before .before .before .before .before .pre) (named at-h .known)))
 
 tell-tally-requires : tie.Need-tell-tally-requires
 tell-tally-requires c κs =
-    let at-a2 = c .before .before .before .before .before .before in
-    let at-asked-window2 = at-a2 .before .before in
-    let at-opened2 = at-asked-window2 .before .before in
-    let at-start = at-opened2 .before .before .before .before .before .before .before .before in
-    let known = opened-venue (at-start .args .book .now) _ (sym (at-opened2 .opened2 .given .1) ∙ (at-start .pre) .answer) in (
-      front-ready (at-start .pre) known,
-      known-covers known,
-      window-between _ _ (sym (at-a2 .a2 .given .1) ∙ (at-asked-window2 .asked-window2 .ensures)
-          ∙ ap₂ windowOf (toZ-ofZ w64 (at-start .args .start) (at-start .fits .start)) (toZ-ofZ w64 (at-start .args .end) (at-start .fits .end))) .order,
-    )
+    let at-h = c .before .before .before .before .before .before in
+    let n = named at-h in
+    (front-ready (at-h .before .before .before .before .before .before .before .before .before .pre) (n .known), known-covers (n .known), n .window .order)
 
 returns : tie.Need-returns
 returns c =
-    let at-refused = c in
-    let at-opened = at-refused .before .before in
-    let at-start = at-opened .before .before .before .before .before .before .before .before in
-    close-refused (at-start .args .book .now) (at-start .args .start) (at-start .args .end) _
-    (sym (at-opened .opened .given .1) ∙ (at-start .pre) .answer) (at-refused .refused .ensures)
+    let at-n = c .before .before in
+    close-refused _ _ _ (sym (at-n .n .given .1) ∙ asked (at-n .before .before)) (c .refused .ensures)
 
 returns-2 : tie.Need-returns-2
 returns-2 c =
-    let at-refused2 = c in
-    let at-n = at-refused2 .before .before in
-    let at-asked-window = at-n .before .before in
-    let at-enum-told = at-asked-window .before in
-    let at-start = at-enum-told .before .before .before .before .before .before .before .before in
-    let args = at-start .args in
-    close-window (args .book .now) (args .start) (args .end)
-    (opened-empty (args .book .now) (sym (at-enum-told .enum-told .given .1) ∙ (at-start .pre) .answer) .0) _ (sym (at-n .n .given .1) ∙
-    (at-asked-window .asked-window .ensures) ∙ ap₂ windowOf (toZ-ofZ w64 (args .start) (at-start .fits .start))
-    (toZ-ofZ w64 (args .end) (at-start .fits .end))) (at-refused2 .refused2 .ensures)
-
-same-length : tie.Need-same-length
-same-length c = search needs
+    let at-tell-blank = c .before .before in
+    let at-a = at-tell-blank .before .before .before in
+    close-empty _ _ _ (judged-blank _ _ _ (sym (at-a .a .given .1) ∙ asked (at-a .before .before))) (at-tell-blank .tell-blank .ensures)
 
 returns-3 : tie.Need-returns-3
 returns-3 c =
-    let at-tell-blank = c .before .before in
-    let at-a = at-tell-blank .before .before .before in
-    let at-asked-window = at-a .before .before in
-    let at-enum-told = at-asked-window .before in
-    let at-start = at-enum-told .before .before .before .before .before .before .before .before in
-    let args = at-start .args in
-    close-empty (args .book .now) (args .start) (args .end) (window-between _ _ (sym (at-a .a .given .1) ∙ (at-asked-window .asked-window .ensures) ∙
-    ap₂ windowOf (toZ-ofZ w64 (args .start) (at-start .fits .start)) (toZ-ofZ w64 (args .end) (at-start .fits .end))))
-    (sym (at-enum-told .enum-told .given .1) ∙ (at-start .pre) .answer) (at-tell-blank .tell-blank .ensures)
-
-returns-4 : tie.Need-returns-4
-returns-4 c =
-    let at-refused3 = c in
-    let at-n2 = at-refused3 .before .before in
-    let at-asked-window2 = at-n2 .before .before in
-    let at-opened2 = at-asked-window2 .before .before in
-    let at-start = at-opened2 .before .before .before .before .before .before .before .before in
-    let args = at-start .args in
-    close-window (args .book .now) (args .start) (args .end)
-    ((opened-venue (args .book .now) _ (sym (at-opened2 .opened2 .given .1) ∙ (at-start .pre) .answer)) .accepted) _ (sym (at-n2 .n2 .given .1) ∙
-    (at-asked-window2 .asked-window2 .ensures) ∙ ap₂ windowOf (toZ-ofZ w64 (args .start) (at-start .fits .start))
-    (toZ-ofZ w64 (args .end) (at-start .fits .end))) (at-refused3 .refused3 .ensures)
-
-same-length-2 : tie.Need-same-length-2
-same-length-2 c = search needs
-
-returns-5 : tie.Need-returns-5
-returns-5 c =
     let at-tell-tally = c .before .before in
-    let at-a2 = at-tell-tally .before .before .before .before .before .before .before in
-    let at-asked-window2 = at-a2 .before .before in
-    let at-opened2 = at-asked-window2 .before .before in
-    let at-start = at-opened2 .before .before .before .before .before .before .before .before in
-    let args = at-start .args in
-    let known = opened-venue (args .book .now) _ (sym (at-opened2 .opened2 .given .1) ∙ (at-start .pre) .answer) in
-    close-venue (args .book .now) (args .start) (args .end) (window-between _ _ (sym (at-a2 .a2 .given .1) ∙
-    (at-asked-window2 .asked-window2 .ensures) ∙ ap₂ windowOf (toZ-ofZ w64 (args .start) (at-start .fits .start))
-    (toZ-ofZ w64 (args .end) (at-start .fits .end)))) known _ (front-values (at-start .pre) known) (at-tell-tally .tell-tally .ensures)
+    let at-h = at-tell-tally .before .before .before .before .before .before .before in
+    let at-start = at-h .before .before .before .before .before .before .before .before .before in
+    close-venue _ _ _ (named at-h) _ (front-values (at-start .pre) (named at-h .known)) (at-tell-tally .tell-tally .ensures)
 
 pub tell-opened-spec : {M : Type 1} → statement M
 tell-opened-spec =
     tie.close
     (tie.spec
-    enum-known-opened
-    refused-requires
-    enum-told
-    asked-window-requires
-    enum-known-n
-    refused-requires-2
-    enum-known-a
+    (λ c κs. tt)
+    (λ c. search needs)
+    (λ c κs. tt)
+    (λ c. search needs)
     tell-blank-requires
-    enum-known-opened-2
-    asked-window-requires-2
-    enum-known-n-2
-    refused-requires-3
-    enum-known-a-2
+    (λ c. search needs)
     slice-aggregate-tell-tally
     slice-aggregate-tell-tally-2
     slice-aggregate-tell-tally-3
     slice-aggregate-tell-tally-4
     tell-tally-requires
     returns
+    (λ c. search needs)
     returns-2
-    same-length
-    returns-3
-    returns-4
-    same-length-2
-    returns-5)
+    (λ c. search needs)
+    returns-3)

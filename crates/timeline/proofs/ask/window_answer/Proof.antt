@@ -1,5 +1,6 @@
 use Rattle.venue.proofs.Fronts.{stored-length, ats-fit, offsets-fit, rules-fit, events-fit, filled}
-use Rattle.timeline.specs.Asking.{windowNumber, windowAnswer}
+use Rattle.query.specs.Judging.{windowNumber}
+use Rattle.timeline.specs.Asking.{windowAnswer}
 use Rattle.lend.proofs.Replies.{lent-same}
 use mir.ValLaws.{toZ-ofZ}
 use mir.Syntax.{w64}

@@ -7,7 +7,7 @@ use lib.ListN.{length}
 use Rattle.records.specs.Limits.{base}
 use Rattle.records.specs.Book.{kindAt, nextAt, many, most, records}
 use Rattle.records.proofs.Frames.{size-by, room2, next2}
-use Rattle.venue.proofs.Passing.{Passing, Standing, few-records, pass-start, standing, frame, range, room-change, room-rule, room-event, pass-change, pass-rule, pass-event, pass-other, pass-end, instant-kept, offset-kept}
+use Rattle.venue.proofs.Passing.{Passing, Standing, Ranged, few-records, pass-start, standing, frame, range, room-change, room-rule, room-event, pass-change, pass-rule, pass-event, pass-other, pass-end, instant-kept, offset-kept}
 use Rattle.venue.proofs.opened.store.Statement.{statement}
 use Rattle.venue.proofs.opened.store.Tie as tie
 
@@ -41,16 +41,19 @@ here c = standing (c .before .loop .inv) (c .loop-test .taken)
 few : (c : At tie.In-loop) (k : ℕ) → many k (records (bookIn c)) ≤ most base k
 few c k = few-records k (bookIn c) (c .before .before .before .before .before .before .before .pre .accepted)
 
--- the place behind the record
-behind : (c : At tie.After-get22) → let l = c .before .before in placeIn l + 2 + (c .get22 .result) ≡ nextAt (bookIn l) (placeIn l)
-behind c = let l = c .before .before in let z = size-by (bookIn l) (placeIn l) _ (c .get22 .ensures) in omega arith
+-- a clock change
+is-change : (c : At tie.Then1) → let l = c .before .before in kindAt (bookIn l) (placeIn l) ≡ 2
+is-change c = sym (c .before .get2 .ensures) ∙ (c .if1 .taken)
 
--- of a clock change
-is-change : (c : At tie.At-match-keys1) → let l = c .before .before .before in kindAt (bookIn l) (placeIn l) ≡ 2
-is-change c = sym (c .before .before .get2 .ensures) ∙ (c .match .keys1)
+change-room : (c : At tie.Then1) → let l = c .before .before in placeIn l + 16 ≤ length (bookIn l)
+change-room c = let l = c .before .before in room2 (bookIn l) (placeIn l) _ (frame (here l)) refl (is-change c)
 
-change-room : (c : At tie.At-match-keys1) → let l = c .before .before .before in placeIn l + 16 ≤ length (bookIn l)
-change-room c = let l = c .before .before .before in room2 (bookIn l) (placeIn l) _ (frame (here l)) refl (is-change c)
+in-range : (c : At tie.Then1) → let l = c .before .before in Ranged (bookIn l) (placeIn l)
+in-range c = range (here (c .before .before)) (is-change c)
+
+-- another record: the place behind it
+behind : (c : At tie.After-get22) → let l = c .before .before .before in placeIn l + 2 + (c .get22 .result) ≡ nextAt (bookIn l) (placeIn l)
+behind c = let l = c .before .before .before in let z = size-by (bookIn l) (placeIn l) _ (c .get22 .ensures) in omega arith
 
 loop-holds : At tie.Need-loop-holds
 loop-holds c =
@@ -63,59 +66,41 @@ add-get2 c = omega (arith, (frame (here c)) .head, (here c) .small)
 get2-requires : At tie.Need-get2-requires
 get2-requires c κs = omega (arith, (frame (here c)) .head)
 
-add-next : At tie.Need-add-next
-add-next c = let l = c .before in omega (arith, (frame (here l)) .head, (here l) .small)
-
-get2-requires-2 : At tie.Need-get2-requires-2
-get2-requires-2 c κs = omega (arith, (frame (here (c .before))) .head)
-
-add-next-2 : At tie.Need-add-next-2
-add-next-2 c =
-    let l = c .before .before in
-    omega (arith, behind c, (frame (here l)) .whole, (here l) .small)
-
 add-signed8 : At tie.Need-add-signed8
-add-signed8 c = omega (arith, change-room c, (here (c .before .before .before)) .small)
+add-signed8 c = omega (arith, change-room c, (here (c .before .before)) .small)
 
 signed8-requires : At tie.Need-signed8-requires
 signed8-requires c κs = omega (arith, change-room c)
 
 sub-ats : At tie.Need-sub-ats
-sub-ats c =
-    let at-signed8 = c .before in
-    let m = at-signed8 .before in
-    omega (arith, range (here (m .before .before .before)) (is-change m) .at-low, at-signed8 .signed8 .ensures)
+sub-ats c = let at-signed8 = c .before in omega (arith, (in-range (at-signed8 .before)) .at-low, at-signed8 .signed8 .ensures)
 
 mul-ats : At tie.Need-mul-ats
 mul-ats c =
     let at-signed8 = c .before in
-    let m = at-signed8 .before in
-    let r = range (here (m .before .before .before)) (is-change m) in
+    let r = in-range (at-signed8 .before) in
     omega (arith, r .at-low, r .at-high, at-signed8 .signed8 .ensures)
 
 slice-write-ats : At tie.Need-slice-write-ats
-slice-write-ats c = let m = c .before .before in room-change (here (m .before .before .before)) (is-change m) .0
+slice-write-ats c = let then = c .before .before in room-change (here (then .before .before)) (is-change then) .0
 
 add-signed4 : At tie.Need-add-signed4
-add-signed4 c = let m = c .before .before in omega (arith, change-room m, (here (m .before .before .before)) .small)
+add-signed4 c = let then = c .before .before in omega (arith, change-room then, (here (then .before .before)) .small)
 
 signed4-requires : At tie.Need-signed4-requires
 signed4-requires c κs = omega (arith, change-room (c .before .before))
 
 sub-offsets : At tie.Need-sub-offsets
-sub-offsets c =
-    let at-signed4 = c .before in
-    let m = at-signed4 .before .before .before in
-    omega (arith, range (here (m .before .before .before)) (is-change m) .offset-low, at-signed4 .signed4 .ensures)
+sub-offsets c = let at-signed4 = c .before in omega (arith, (in-range (at-signed4 .before .before .before)) .offset-low, at-signed4 .signed4 .ensures)
 
 slice-write-offsets : At tie.Need-slice-write-offsets
-slice-write-offsets c = let m = c .before .before .before .before in room-change (here (m .before .before .before)) (is-change m) .1
+slice-write-offsets c = let then = c .before .before .before .before in room-change (here (then .before .before)) (is-change then) .1
 
 add-change : At tie.Need-add-change
-add-change c = let l = c .before .before .before .before .before .before .before in omega (arith, few l 2, (l .before .loop .inv) .changing .total)
+add-change c = let l = c .before .before .before .before .before .before in omega (arith, few l 2, (l .before .loop .inv) .changing .total)
 
 add-at : At tie.Need-add-at
-add-at c = let m = c .before .before .before .before in omega (arith, change-room m, (here (m .before .before .before)) .small)
+add-at c = let then = c .before .before .before .before in omega (arith, change-room then, (here (then .before .before)) .small)
 
 loop-less : At tie.Need-loop-less
 loop-less c = omega (arith, change-room (c .before .before .before .before))
@@ -124,50 +109,59 @@ loop-again : At tie.Need-loop-again
 loop-again c =
     let at-signed4 = c .before in
     let at-signed8 = at-signed4 .before .before in
-    let m = at-signed8 .before in
-    let l = m .before .before .before in
-    let r = range (here l) (is-change m) in
-    pass-change (here l) (next2 (bookIn l) (placeIn l) _ (frame (here l)) refl (is-change m)) (is-change m)
-    (instant-kept r _ (at-signed8 .signed8 .ensures)) (offset-kept r _ (at-signed4 .signed4 .ensures))
+    let then = at-signed8 .before in
+    let l = then .before .before in
+    pass-change (here l) (next2 (bookIn l) (placeIn l) _ (frame (here l)) refl (is-change then)) (is-change then)
+    (instant-kept (in-range then) _ (at-signed8 .signed8 .ensures)) (offset-kept (in-range then) _ (at-signed4 .signed4 .ensures))
+
+add-next : At tie.Need-add-next
+add-next c = let l = c .before .before in omega (arith, (frame (here l)) .head, (here l) .small)
+
+get2-requires-2 : At tie.Need-get2-requires-2
+get2-requires-2 c κs = omega (arith, (frame (here (c .before .before))) .head)
+
+add-next-2 : At tie.Need-add-next-2
+add-next-2 c = let l = c .before .before .before in omega (arith, behind c, (frame (here l)) .whole, (here l) .small)
 
 cast-rules : At tie.Need-cast-rules
-cast-rules c = let l = c .before .before .before in omega (arith, (here l) .small, (here l) .inside)
+cast-rules c = let l = c .before .before .before .before in omega (arith, (here l) .small, (here l) .inside)
 
 slice-write-rules : At tie.Need-slice-write-rules
-slice-write-rules c = room-rule (here (c .before .before .before)) (sym (c .before .before .get2 .ensures) ∙ (c .match .keys2))
+slice-write-rules c = room-rule (here (c .before .before .before .before)) (sym (c .before .before .before .get2 .ensures) ∙ (c .match .keys1))
 
 add-rule : At tie.Need-add-rule
-add-rule c = let l = c .before .before .before in omega (arith, few l 3, (l .before .loop .inv) .ruling .total)
+add-rule c = let l = c .before .before .before .before in omega (arith, few l 3, (l .before .loop .inv) .ruling .total)
 
 loop-less-2 : At tie.Need-loop-less-2
-loop-less-2 c = omega (arith, behind (c .before), (frame (here (c .before .before .before))) .whole)
+loop-less-2 c = omega (arith, behind (c .before), (frame (here (c .before .before .before .before))) .whole)
 
 loop-again-2 : At tie.Need-loop-again-2
-loop-again-2 c = pass-rule (here (c .before .before .before)) (behind (c .before)) (sym (c .before .before .get2 .ensures) ∙ (c .match .keys2))
+loop-again-2 c = pass-rule (here (c .before .before .before .before)) (behind (c .before)) (sym (c .before .before .before .get2 .ensures) ∙ (c .match .keys1))
 
 cast-events : At tie.Need-cast-events
-cast-events c = let l = c .before .before .before in omega (arith, (here l) .small, (here l) .inside)
+cast-events c = let l = c .before .before .before .before in omega (arith, (here l) .small, (here l) .inside)
 
 slice-write-events : At tie.Need-slice-write-events
-slice-write-events c = room-event (here (c .before .before .before)) (sym (c .before .before .get2 .ensures) ∙ (c .match .keys3))
+slice-write-events c = room-event (here (c .before .before .before .before)) (sym (c .before .before .before .get2 .ensures) ∙ (c .match .keys2))
 
 add-event : At tie.Need-add-event
-add-event c = let l = c .before .before .before in omega (arith, few l 4, (l .before .loop .inv) .eventing .total)
+add-event c = let l = c .before .before .before .before in omega (arith, few l 4, (l .before .loop .inv) .eventing .total)
 
 loop-less-3 : At tie.Need-loop-less-3
-loop-less-3 c = omega (arith, behind (c .before), (frame (here (c .before .before .before))) .whole)
+loop-less-3 c = omega (arith, behind (c .before), (frame (here (c .before .before .before .before))) .whole)
 
 loop-again-3 : At tie.Need-loop-again-3
-loop-again-3 c = pass-event (here (c .before .before .before)) (behind (c .before)) (sym (c .before .before .get2 .ensures) ∙ (c .match .keys3))
+loop-again-3 c = pass-event (here (c .before .before .before .before)) (behind (c .before)) (sym (c .before .before .before .get2 .ensures) ∙ (c .match .keys2))
 
 loop-less-4 : At tie.Need-loop-less-4
-loop-less-4 c = omega (arith, behind (c .before), (frame (here (c .before .before .before))) .whole)
+loop-less-4 c = omega (arith, behind (c .before), (frame (here (c .before .before .before .before))) .whole)
 
 loop-again-4 : At tie.Need-loop-again-4
 loop-again-4 c =
-    let read = c .before .before .get2 .ensures in
+    let not-change = c .before .before in
+    let read = not-change .before .get2 .ensures in
     let others = c .match .rest in
-    pass-other (here (c .before .before .before)) (behind (c .before)) (λ e. others .0 .0 .1 (read ∙ e)) (λ e. others .0 .1 (read ∙ e)) (λ e. others .1 (read ∙ e))
+    pass-other (here (not-change .before .before)) (behind (c .before)) (λ e. not-change .if1 .left (read ∙ e)) (λ e. others .0 .1 (read ∙ e)) (λ e. others .1 (read ∙ e))
 
 same-length : At tie.Need-same-length
 same-length c = (c .before .loop .inv) .changing .to-ats .kept
@@ -193,10 +187,6 @@ store-spec =
     loop-holds
     add-get2
     get2-requires
-    add-next
-    get2-requires-2
-    (λ c. omega arith)
-    add-next-2
     add-signed8
     signed8-requires
     sub-ats
@@ -212,6 +202,10 @@ store-spec =
     add-at
     loop-less
     loop-again
+    add-next
+    get2-requires-2
+    (λ c. omega arith)
+    add-next-2
     cast-rules
     (λ c. search needs)
     slice-write-rules
