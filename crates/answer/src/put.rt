@@ -13,16 +13,18 @@ ghost use Rattle.answer.specs.Amending.{front, Amends};
 ghost use Rattle.answer.specs.Meaning.{phaseOf, eventOf, coverBytes, missingOf, gapOf, totalsBytes, totalsOf};
 use crate::Covered;
 use crate::Phase;
+use wire::HALF8;
 use wire::put1;
 use wire::put2;
 use wire::put4;
 use wire::put8;
 use zone::Boundary;
+use zone::INSTANT_ZERO;
 use zone::Instant;
 use zone::Uncertainty;
 
 // 2^64 less the nanoseconds from 1899-12-25 to 1970.
-const FROM_1970: u64 = 16_237_150_473_709_551_616;
+const FROM_1970: u64 = INSTANT_ZERO + HALF8;
 
 // Where a phase's end and its second boundary stand, counted from its first byte.
 const END: usize = 12;

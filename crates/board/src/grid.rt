@@ -4,6 +4,7 @@ ghost use Prim.Native.Nat.{_+_, _*_, _/_, _≤_, _<_};
 ghost use mathlib.Core.Path.{_≡_};
 ghost use Rattle.board.specs.Cells.{mostColumns, columnsOf, markerColumn};
 ghost use Rattle.board.specs.Private.{Good, PaceOf, ColumnOf, Small, Sum};
+use wire::HALF8;
 use wire::Placed;
 use wire::place;
 
@@ -35,8 +36,6 @@ struct Mixed {
     part: u64,
 }
 
-const HALF: u64 = 0x8000_0000_0000_0000;
-
 const FEWEST: u64 = 12;
 
 pub(crate) const MOST: u64 = 512;
@@ -48,10 +47,10 @@ pub(crate) fn columns_of(columns: i64) -> u64
     ensures { λ r. ⌜ r ≡ columnsOf columns ⌝ }
 {
     let p = place(columns).0;
-    if p < HALF + FEWEST {
+    if p < HALF8 + FEWEST {
         return FEWEST;
     }
-    p - HALF
+    p - HALF8
 }
 
 // The one division; the columns then go on by sums.

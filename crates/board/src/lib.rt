@@ -4,7 +4,5 @@ mod grid;
 
 pub use cells::cells_answer;
 
-// Document 01's numbers.
+// Document 01's number.
 const TOO_MANY: u32 = 14;
-
-const NO_ROOM: u32 = 16;

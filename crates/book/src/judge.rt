@@ -20,6 +20,7 @@ use wire::get2;
 use wire::get8;
 use wire::signed4;
 use wire::signed8;
+use zone::DAY_NS;
 
 // The records seen so far: how many of each kind, and the earliest second that the next transition may have, placed.
 pub(crate) struct Seen {
@@ -39,38 +40,11 @@ pub const MOST_RULES: usize = 256;
 
 pub const MOST_EVENTS: usize = 32;
 
-const MOST_POINTS: u8 = 16;
+pub const MOST_POINTS: u8 = 16;
 
 const MOST_TIMES: u8 = 8;
 
-// Ranges of signed fields, placed.
-const HALF4: u32 = 0x8000_0000;
-
-const HALF8: u64 = 0x8000_0000_0000_0000;
-
-const INSTANTS_LOW: u64 = HALF8 - 2_177_452_800_000_000_000;
-
-const INSTANTS_HIGH: u64 = HALF8 + 7_226_582_400_000_000_000;
-
-const SECONDS_LOW: u64 = HALF8 - 2_208_988_800;
-
-const SECONDS_HIGH: u64 = HALF8 + 7_258_118_400;
-
-const OFFSETS_LOW: u32 = HALF4 - 57_600;
-
-const OFFSETS_HIGH: u32 = HALF4 + 57_600;
-
-const DAYS_LOW: u32 = HALF4 - 25_567;
-
-const DAYS_HIGH: u32 = HALF4 + 84_005;
-
-const WIDTHS_HIGH: u64 = HALF8 + 1_000_000_000_000_000;
-
 const SPACING: u64 = 172_800;
-
-const DAY_NS: u64 = 86_400_000_000_000;
-
-const LAST_PHASE: u8 = 7;
 
 fn outside4(book: &[u8], p: usize, low: u32, high: u32) -> bool
     requires { ⌜ Inside p 4 (now book) ⌝ }
@@ -163,8 +137,8 @@ fn bad_uncertainty(book: &[u8], at: usize, kind: u16) -> bool
     let tag = get1(book, p);
     let nanoseconds = signed8(book, p + 1).0;
     let text = get2(book, p + 9);
-    ((3 < tag) | ((nanoseconds < HALF8) | (WIDTHS_HIGH < nanoseconds)))
-        | ((((tag == 0) | (tag == 3)) & (HALF8 < nanoseconds)) | ((tag < 2) & (text != 0)))
+    ((3 < tag) | ((nanoseconds < WIDTHS_LOW) | (WIDTHS_HIGH < nanoseconds)))
+        | ((((tag == 0) | (tag == 3)) & (WIDTHS_LOW < nanoseconds)) | ((tag < 2) & (text != 0)))
 }
 
 fn bad_rule(book: &[u8], at: usize) -> bool
@@ -175,7 +149,7 @@ fn bad_rule(book: &[u8], at: usize) -> bool
     let mask = get1(book, at + RULE_MASK);
     let label = get2(book, at + RULE_LABEL);
     let n = get1(book, at + count_place(RULE));
-    (bad_days(book, at) | (3 < code) | (127 < mask))
+    (bad_days(book, at) | (LAST_CODE < code) | (127 < mask))
         | (((code == 0) & (label != 0))
             | (!(code == 0) & (mask != 0))
             | bad_uncertainty(book, at, RULE))

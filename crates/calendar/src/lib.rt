@@ -5,6 +5,7 @@ ghost use mathlib.Core.Option.{some};
 ghost use Prim.Native.Nat.{suc, _+_, _-_, _≤_, _<_};
 ghost use Rattle.calendar.specs.Gregorian.{firstYear, total, leap, yearDays, monthDays, dayNumber};
 ghost use Rattle.calendar.specs.Answers.{firstDay, lastDay, meaning, within, numbered, found, weekdayOf, DateOf};
+use wire::HALF4;
 use wire::Placed4;
 use wire::place4;
 use wire::unplace4;
@@ -41,12 +42,12 @@ const FIRST_YEAR: u32 = 1900;
 const LAST_YEAR: u32 = 2199;
 
 // 1900-01-01 and 2199-12-31, as Days.
-const FIRST_DAY: u32 = 7;
+pub const FIRST_DAY: u32 = 7;
 
-const LAST_DAY: u32 = 109_579;
+pub const LAST_DAY: u32 = 109_579;
 
-// Day 0 as a placed day number: 2^31 - 25,574.
-const DAY_ZERO: u32 = 2_147_458_074;
+// Day 0 as a placed day number.
+pub const DAY_ZERO: u32 = HALF4 - 25_574;
 
 // The Day of 1 January, of each year from 1900 to 2200.
 const YEAR_STARTS: [u32; 301] = [

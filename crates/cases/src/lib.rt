@@ -3,6 +3,7 @@
 ghost use mathlib.Core.Path.{_≡_};
 ghost use Rattle.cases.specs.Cases.{numberAt, more, metOf};
 use libc::STDOUT_FILENO;
+use wire::HALF8;
 use wire::Placed;
 
 // More blocks than a list has.
@@ -11,7 +12,8 @@ pub const BLOCKS: u64 = 10_000;
 // The count of what differed stands at place 0, and the others at their kinds.
 const DIFFERED: u8 = 0;
 
-const ZERO: u64 = 0x8000_0000_0000_0000;
+// The number 0, placed.
+pub const ZERO: u64 = HALF8;
 
 // The number at a place of the record at `at`; 0 where the list ends before it.
 pub fn number(list: &[u8], at: usize, place: u8) -> Placed

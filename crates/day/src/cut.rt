@@ -13,7 +13,9 @@ ghost use Rattle.day.specs.Days.{venueBy, after};
 ghost use Rattle.day.specs.Meaning.{held, Placed};
 use crate::Segment;
 use crate::Spanned;
+use book::MOST_POINTS;
 use calendar::Day;
+use calendar::LAST_DAY;
 use spans::later;
 use venue::point_phase;
 use venue::point_time;
@@ -25,10 +27,10 @@ use zone::Uncertainty;
 use zone::to_utc_at;
 
 // One more boundary than a rule can have points.
-const MOST_BOUNDARIES: usize = 17;
+const MOST_BOUNDARIES: usize = MOST_POINTS as usize + 1;
 
 // Dates from here on convert as this one does.
-const LAST_CONVERTED: u32 = 109_585;
+const LAST_CONVERTED: u32 = LAST_DAY + 6;
 
 // A boundary, not earlier than its predecessor.
 fn raised(before: Boundary, own: Boundary) -> Boundary

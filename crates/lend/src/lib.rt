@@ -1,6 +1,9 @@
 // What every entry point gives back beside the room that it was lent.
 ghost use mathlib.Core.Path.{_≡_};
 
+// Document 01's number where the answer is longer than the room.
+pub const NO_ROOM: u32 = 16;
+
 // A number of document 01, 0 for an answer, and the answer's length.
 #[repr(C)]
 pub struct Reply {

@@ -3,10 +3,9 @@ ghost use Prim.Native.Nat.{_<_};
 ghost use mathlib.Core.List.{[], _∷_};
 ghost use Rattle.listing.specs.Text.{space, digit, decimal, instant};
 ghost use Rattle.listing.specs.Private.{Fits, Puts};
+use wire::HALF8;
 use wire::Placed;
 use wire::put1;
-
-const HALF: u64 = 0x8000_0000_0000_0000;
 
 pub(crate) fn put_byte(out: &mut [u8], at: usize, b: u8) -> usize
     requires { ⌜ Fits at (b ∷ []) (now out) ⌝ }
@@ -60,11 +59,11 @@ fn put_signed(out: &mut [u8], at: usize, p: Placed) -> usize
     ensures { λ r. ⌜ Puts (now (out .entry)) at (instant (p .0)) (now (out .exit)) r ⌝ }
 {
     let x = p.0;
-    if x < HALF {
+    if x < HALF8 {
         let next = put_byte(out, at, b'-');
-        return put_decimal(out, next, HALF - x);
+        return put_decimal(out, next, HALF8 - x);
     }
-    put_decimal(out, at, x - HALF)
+    put_decimal(out, at, x - HALF8)
 }
 
 // An instant behind a space.

@@ -3,8 +3,8 @@ ghost use Prim.Native.Nat.{_+_, _*_, _≤_};
 ghost use mathlib.Core.Path.{_≡_};
 ghost use lib.ListN.{length};
 ghost use Rattle.pages.specs.Rows.{rowEnd, rowsOf, mostNs};
-use crate::DAY_NS;
 use answer::ROW_BYTES;
+use zone::DAY_NS;
 
 // The next row edge after `at`. Sizing and rows both ask here.
 pub(crate) fn row_end(end: u64, at: u64) -> u64

@@ -14,8 +14,6 @@ pub const SLOTS: usize = 10;
 // Where what is unknown is counted.
 pub const UNKNOWN: usize = 8;
 
-pub const DAY_NS: u64 = 86_400_000_000_000;
-
 // The row that is open, and where its record will stand.
 pub struct Page {
     pub start: Instant,

@@ -28,6 +28,7 @@ use day::Segment;
 use day::Spanned;
 use day::point;
 use events::count_events;
+use lend::NO_ROOM;
 use lend::Reply;
 use lend::answered;
 use lend::refused;
@@ -41,8 +42,6 @@ use venue::Opened;
 use venue::open;
 use zone::Instant;
 use zone::widest;
-
-const NO_ROOM: u32 = 16;
 
 fn tell_missing(out: &mut [u8], t: Instant, c: Covered) -> Reply
     ensures { λ r. ⌜ Lent 0 (encode (Forms·point (missingOf (t .0) c))) (now (out .entry)) (now (out .exit)) r ⌝ }

@@ -11,25 +11,21 @@ use crate::Judged;
 use crate::OUTSIDE;
 use crate::REVERSED;
 use crate::Window;
+use records::INSTANTS_HIGH;
+use records::INSTANTS_LOW;
 use venue::Opened;
 use wire::place;
+use zone::INSTANT_ZERO;
 use zone::Instant;
-
-// The range of queries, and 1899-12-25, as placed numbers.
-const QUERY_LOW: u64 = 0x8000_0000_0000_0000 - 2_177_452_800_000_000_000;
-
-const QUERY_HIGH: u64 = 0x8000_0000_0000_0000 + 7_226_582_400_000_000_000;
-
-const INSTANT_ZERO: u64 = 0x8000_0000_0000_0000 - 2_209_593_600_000_000_000;
 
 pub fn asked_at(at: i64) -> Asked
     ensures { λ r. ⌜ queried r ≡ cond (inside instants at) (some (instantOf at)) none ⌝ }
 {
     let p = place(at).0;
-    if p < QUERY_LOW {
+    if p < INSTANTS_LOW {
         return Asked::Outside;
     }
-    if QUERY_HIGH < p {
+    if INSTANTS_HIGH < p {
         return Asked::Outside;
     }
     Asked::At(Instant(p - INSTANT_ZERO))

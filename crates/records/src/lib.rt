@@ -2,6 +2,7 @@
 
 mod fields;
 mod phase;
+mod ranges;
 
 pub use fields::COVERAGE;
 pub use fields::COVERAGE_END;
@@ -29,3 +30,15 @@ pub use fields::step_of;
 pub use fields::tag_place;
 pub use fields::time_place;
 pub use phase::is_trading;
+pub use ranges::DAYS_HIGH;
+pub use ranges::DAYS_LOW;
+pub use ranges::INSTANTS_HIGH;
+pub use ranges::INSTANTS_LOW;
+pub use ranges::LAST_CODE;
+pub use ranges::LAST_PHASE;
+pub use ranges::OFFSETS_HIGH;
+pub use ranges::OFFSETS_LOW;
+pub use ranges::SECONDS_HIGH;
+pub use ranges::SECONDS_LOW;
+pub use ranges::WIDTHS_HIGH;
+pub use ranges::WIDTHS_LOW;

@@ -3,6 +3,7 @@
 // oracle/compare/src/list.rs says how.
 ghost use Prim.Native.Nat.{_≤_};
 use board::cells_answer;
+use cases::ZERO;
 use cases::met;
 use cases::number;
 use cases::report;
@@ -47,8 +48,6 @@ const STRANGE: u8 = 21;
 const ENTRIES: u8 = 20;
 
 const PLACES: usize = 27;
-
-const ZERO: u64 = 0x8000_0000_0000_0000;
 
 // The longest book of zeros.
 const LONGEST: usize = 100_000;

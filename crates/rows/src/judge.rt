@@ -10,15 +10,13 @@ use crate::fields::*;
 use crate::reading::segment_at;
 use answer::EVENT_BYTES;
 use records::KIND;
+use records::LAST_CODE;
+use records::LAST_PHASE;
 use wire::get1;
 use wire::get2;
 use wire::signed8;
 
 const WORD: u32 = 0x1_0000;
-
-const LAST_PHASE: u8 = 7;
-
-const LAST_CODE: u8 = 3;
 
 const LAST_TAG: u8 = 5;
 

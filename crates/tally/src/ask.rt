@@ -12,21 +12,20 @@ use crate::pass::put_tallies;
 use book::MOST_EVENTS;
 use book::MOST_RULES;
 use book::MOST_TRANSITIONS;
+use lend::NO_ROOM;
 use lend::Reply;
 use lend::answered;
 use lend::refused;
-use pages::DAY_NS;
 use pages::tally_size;
 use query::Judged;
 use query::judged_window;
 use venue::Header;
 use venue::Opened;
 use venue::open;
+use zone::DAY_NS;
 use zone::Instant;
 
 const TOO_LONG: u32 = 13;
-
-const NO_ROOM: u32 = 16;
 
 // 400 days.
 const MOST_NS: u64 = 400 * DAY_NS;

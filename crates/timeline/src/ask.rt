@@ -21,6 +21,7 @@ use book::MOST_EVENTS;
 use book::MOST_RULES;
 use book::MOST_TRANSITIONS;
 use joining::walk_size;
+use lend::NO_ROOM;
 use lend::Reply;
 use lend::answered;
 use lend::refused;
@@ -33,8 +34,6 @@ use venue::Header;
 use venue::Opened;
 use venue::open;
 use zone::Instant;
-
-const NO_ROOM: u32 = 16;
 
 // How many bytes a stretch takes of which nothing is known.
 fn gap_size(from: Instant, to: Instant) -> usize

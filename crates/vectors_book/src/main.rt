@@ -1,6 +1,7 @@
 // Judges a list of books and compares the numbers that they get, and prints how many it met of each number and how many differed.
 // tools/books.py makes the list and says how.
 ghost use Prim.Native.Nat.{_≤_};
+use cases::ZERO;
 use cases::met;
 use cases::number;
 use cases::report;
@@ -18,8 +19,6 @@ const HEAD: usize = 17;
 const STRANGE: u8 = 11;
 
 const PLACES: usize = 12;
-
-const ZERO: u64 = 0x8000_0000_0000_0000;
 
 // The longest book of zeros.
 const LONGEST: usize = 100_000;

@@ -4,6 +4,7 @@ ghost use Prim.Native.Nat.{_≤_};
 use calendar::Dated;
 use calendar::Found;
 use calendar::Numbered;
+use cases::ZERO;
 use cases::met;
 use cases::number;
 use cases::report;
@@ -23,8 +24,6 @@ const STRANGE: u8 = 5;
 const PLACES: usize = 6;
 
 // 2^63, and 2^63 - 2^31.
-const ZERO: u64 = 0x8000_0000_0000_0000;
-
 const LOW: u64 = ZERO - 0x8000_0000;
 
 // A number of the list as an i32, and as a year, month or day; 0 for one that is none.

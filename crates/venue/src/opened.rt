@@ -12,14 +12,18 @@ use records::COVERAGE_END;
 use records::COVERAGE_OFFSET;
 use records::COVERAGE_START;
 use records::KIND;
+use records::OFFSETS_LOW;
 use records::TRANSITION;
 use records::TRANSITION_BYTES;
 use records::TRANSITION_INSTANT;
 use records::TRANSITION_OFFSET;
+use wire::HALF8;
 use wire::get2;
 use wire::signed4;
 use wire::signed8;
+use zone::INSTANT_ZERO;
 use zone::Instant;
+use zone::SECOND_NS;
 
 // Coverage, the first offset, in seconds plus 57,600, and how many of each kind there are.
 pub struct Header {
@@ -38,14 +42,8 @@ pub enum Opened {
     Venue(Header),
 }
 
-// 1899-12-25 as a placed number of nanoseconds and of seconds, and an offset of -57,600 as one of seconds.
-const INSTANT_ZERO: u64 = 0x8000_0000_0000_0000 - 2_209_593_600_000_000_000;
-
-const SECOND_ZERO: u64 = 0x8000_0000_0000_0000 - 2_209_593_600;
-
-const OFFSET_ZERO: u32 = 0x8000_0000 - 57_600;
-
-const SECOND_NS: u64 = 1_000_000_000;
+// 1899-12-25 as a placed number of seconds.
+const SECOND_ZERO: u64 = HALF8 - 2_209_593_600;
 
 // How many clock changes, rules and events there are.
 struct Counts {
@@ -79,7 +77,7 @@ fn store(
         let kind = get2(book, at + KIND);
         if kind == TRANSITION {
             ats[change] = (signed8(book, at + TRANSITION_INSTANT).0 - SECOND_ZERO) * SECOND_NS;
-            offsets[change] = signed4(book, at + TRANSITION_OFFSET).0 - OFFSET_ZERO;
+            offsets[change] = signed4(book, at + TRANSITION_OFFSET).0 - OFFSETS_LOW;
             change += 1;
             at += TRANSITION_BYTES;
             continue;
@@ -130,7 +128,7 @@ pub fn open(
     }
     let start = Instant(signed8(book, COVERAGE_START).0 - INSTANT_ZERO);
     let end = Instant(signed8(book, COVERAGE_END).0 - INSTANT_ZERO);
-    let first = signed4(book, COVERAGE_OFFSET).0 - OFFSET_ZERO;
+    let first = signed4(book, COVERAGE_OFFSET).0 - OFFSETS_LOW;
     let n = store(book, ats, offsets, rules, events);
     Opened::Venue(Header {
         start,

@@ -9,6 +9,7 @@ ghost use Rattle.records.specs.Limits.{base};
 ghost use Rattle.records.specs.Records.{ruleAt, eventAt, publishedAt};
 ghost use Rattle.venue.specs.Opening.{dayOf};
 ghost use Rattle.venue.specs.Reading.{Listed, published, midnight};
+use calendar::DAY_ZERO;
 use calendar::Day;
 use records::*;
 use wire::get1;
@@ -147,11 +148,6 @@ pub fn event_time(book: &[u8], at: usize, i: usize) -> u64
     get8(book, at + step_of(EVENT) * i + time_place(EVENT))
 }
 
-// 1899-12-25 as a placed day number, and a width of 0.
-const DAY_ZERO: u32 = 0x8000_0000 - 25_574;
-
-const WIDTH_ZERO: u64 = 0x8000_0000_0000_0000;
-
 // The published uncertainty of a record of a kind.
 fn uncertainty(book: &[u8], at: usize, kind: u16) -> Uncertainty
     requires { ⌜ ((kind ≡ 3) ⊎ (kind ≡ 4)) × Listed kind (now book) at ⌝ }
@@ -159,7 +155,7 @@ fn uncertainty(book: &[u8], at: usize, kind: u16) -> Uncertainty
 {
     let p = at + tag_place(kind);
     let tag = get1(book, p);
-    let nanoseconds = signed8(book, p + 1).0 - WIDTH_ZERO;
+    let nanoseconds = signed8(book, p + 1).0 - WIDTHS_LOW;
     let text = get2(book, p + 9);
     match tag {
         0 => Uncertainty::Exact,

@@ -5,6 +5,8 @@ mod steady;
 mod step;
 mod turn;
 
+use book::MOST_POINTS;
+use book::MOST_RULES;
 use calendar::Day;
 use day::Governed;
 pub use step::behind;
@@ -15,10 +17,10 @@ pub use turn::begin;
 use zone::Instant;
 
 // One more boundary than a rule can have points.
-pub const MOST_BOUNDARIES: usize = 17;
+pub const MOST_BOUNDARIES: usize = MOST_POINTS as usize + 1;
 
 // Room for the places of all rules of a book, behind three numbers.
-pub const MOST_KEPT: usize = 259;
+pub const MOST_KEPT: usize = MOST_RULES + 3;
 
 // The most turns that a walk takes.
 pub const MOST_TURNS: u32 = 3_660;

@@ -9,9 +9,8 @@ ghost use Rattle.walk.specs.Shifting.{ShiftedIn};
 use spans::later;
 use venue::point_time;
 use venue::rule_points;
+use zone::DAY_NS;
 use zone::Instant;
-
-const DAY_NS: u64 = 86_400_000_000_000;
 
 // Stores the instants of the boundaries of a date that begins at `midnight`, by the rule at a place.
 pub(crate) fn steady_boundaries(book: &[u8], rule: u32, midnight: Instant, edges: &mut [u64])

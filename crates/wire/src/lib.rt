@@ -15,6 +15,8 @@ pub use put::put1;
 pub use put::put2;
 pub use put::put4;
 pub use put::put8;
+pub use sign::HALF4;
+pub use sign::HALF8;
 pub use sign::Placed;
 pub use sign::Placed4;
 pub use sign::place;

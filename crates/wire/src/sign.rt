@@ -9,9 +9,9 @@ pub struct Placed(pub u64);
 // Any i32 plus 2^31.
 pub struct Placed4(pub u32);
 
-const HALF8: u64 = 0x8000_0000_0000_0000;
+pub const HALF8: u64 = 0x8000_0000_0000_0000;
 
-const HALF4: u32 = 0x8000_0000;
+pub const HALF4: u32 = 0x8000_0000;
 
 pub fn place(x: i64) -> Placed
     ensures { λ r. ⌜ r .0 ≡ placed w64 x ⌝ }

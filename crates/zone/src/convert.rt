@@ -20,12 +20,14 @@ use crate::search::offset_after;
 use crate::search::offset_at;
 use crate::search::passed;
 use calendar::Day;
+use calendar::FIRST_DAY;
+use calendar::LAST_DAY;
 
-const FIRST_READING: u64 = 2 * DAY_NS;
+const FIRST_READING: u64 = (FIRST_DAY as u64 - 5) * DAY_NS;
 
-const LAST_READING: u64 = 109_586 * DAY_NS;
+const LAST_READING: u64 = (LAST_DAY as u64 + 7) * DAY_NS;
 
-const LAST_READING_DAY: u64 = 109_585;
+const LAST_READING_DAY: u64 = LAST_DAY as u64 + 6;
 
 // The number from `low` to `high` that is nearest to x.
 fn nearest(low: u64, x: u64, high: u64) -> u64

@@ -7,6 +7,8 @@ mod steady;
 mod valid;
 mod wide;
 
+use calendar::FIRST_DAY;
+use calendar::LAST_DAY;
 pub use convert::day_at;
 pub use convert::day_of_reading;
 pub use convert::reading_at;
@@ -16,6 +18,7 @@ pub use convert::time_of_reading;
 pub use convert::to_utc;
 pub use convert::to_utc_at;
 pub use dated::reads_throughout;
+pub use number::INSTANT_ZERO;
 pub use number::Timed;
 pub use number::instant_of;
 pub use number::number_of;
@@ -27,9 +30,9 @@ pub use steady::steady_offset;
 pub use valid::is_valid;
 pub use wide::widest;
 
-pub(crate) const SECOND_NS: u64 = 1_000_000_000;
+pub const SECOND_NS: u64 = 1_000_000_000;
 
-pub(crate) const DAY_NS: u64 = 86_400 * SECOND_NS;
+pub const DAY_NS: u64 = 86_400 * SECOND_NS;
 
 // The most that an offset moves a reading.
 pub(crate) const MOST_NS: u64 = 57_600 * SECOND_NS;
@@ -37,10 +40,15 @@ pub(crate) const MOST_NS: u64 = 57_600 * SECOND_NS;
 // An offset is kept in seconds plus 57,600.
 pub(crate) const OFFSET_MOST: u32 = 115_200;
 
-// Instants in use: a number outside counts as the nearest inside.
-pub(crate) const FIRST_INSTANT: u64 = DAY_NS;
+// Transitions stand from the first of these to the second.
+pub(crate) const FIRST_TRANSITION: u64 = FIRST_DAY as u64 * DAY_NS;
 
-pub(crate) const LAST_INSTANT: u64 = 109_587 * DAY_NS;
+pub(crate) const LAST_TRANSITION: u64 = (LAST_DAY as u64 + 1) * DAY_NS;
+
+// Instants in use: a number outside counts as the nearest inside.
+pub(crate) const FIRST_INSTANT: u64 = (FIRST_DAY as u64 - 6) * DAY_NS;
+
+pub(crate) const LAST_INSTANT: u64 = (LAST_DAY as u64 + 8) * DAY_NS;
 
 // Nanoseconds since 1899-12-25T00:00 UTC.
 pub struct Instant(pub u64);

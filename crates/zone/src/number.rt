@@ -6,6 +6,7 @@ ghost use Rattle.zone.specs.Answers.{timed, within, placedNumber};
 use crate::FIRST_INSTANT;
 use crate::Instant;
 use crate::LAST_INSTANT;
+use wire::HALF8;
 use wire::Placed;
 
 // An instant, where there is one.
@@ -14,8 +15,8 @@ pub enum Timed {
     Outside,
 }
 
-// The instant 0 as a placed number: 2^63 less the nanoseconds from 1899-12-25 to 1970.
-const INSTANT_ZERO: u64 = 7_013_778_436_854_775_808;
+// The instant 0 as a placed number: 1899-12-25 is so many nanoseconds before 1970.
+pub const INSTANT_ZERO: u64 = HALF8 - 2_209_593_600_000_000_000;
 
 // The instant that a number means, if it is one that is in use.
 pub fn instant_of(p: Placed) -> Timed

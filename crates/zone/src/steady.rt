@@ -4,7 +4,9 @@ ghost use Rattle.zone.specs.Zone.{zoneOf};
 ghost use Rattle.zone.specs.Answers.{Valid};
 ghost use Rattle.zone.specs.Steady.{steadyOf, dayBy, midnightBy, OnWall, DayOnWall};
 use crate::DAY_NS;
+use crate::FIRST_TRANSITION;
 use crate::Instant;
+use crate::LAST_TRANSITION;
 use crate::MOST_NS;
 use crate::SECOND_NS;
 use crate::search::next_at;
@@ -21,19 +23,15 @@ pub enum Steady {
 // A day, and twice as much as an offset can be.
 const MARGIN_NS: u64 = DAY_NS + 2 * MOST_NS;
 
-const FIRST_STEADY: u64 = 7 * DAY_NS;
-
-const LAST_STEADY: u64 = 109_580 * DAY_NS;
-
 // The offset from 56 hours before one instant to 56 hours after another, if no transition stands there.
 pub fn steady_offset(first: u32, ats: &[u64], offsets: &[u32], from: Instant, to: Instant) -> Steady
     requires { ⌜ Valid first (now ats) (now offsets) ⌝ }
     ensures { λ r. ⌜ r ≡ steadyOf (zoneOf first (now (ats .entry)) (now (offsets .entry))) (from .0) (to .0) ⌝ }
 {
-    if from.0 < FIRST_STEADY {
+    if from.0 < FIRST_TRANSITION {
         return Steady::No;
     }
-    if LAST_STEADY < to.0 {
+    if LAST_TRANSITION < to.0 {
         return Steady::No;
     }
     let count = passed(ats, from.0 - MARGIN_NS);

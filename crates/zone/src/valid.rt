@@ -1,13 +1,10 @@
 // Whether slices hold transitions that a zone can have.
 ghost use mathlib.Core.Path.{_≡_};
 ghost use Rattle.zone.specs.Answers.{valid};
-use crate::DAY_NS;
+use crate::FIRST_TRANSITION;
+use crate::LAST_TRANSITION;
 use crate::OFFSET_MOST;
 use crate::SECOND_NS;
-
-const FIRST_TRANSITION: u64 = 7 * DAY_NS;
-
-const LAST_TRANSITION: u64 = 109_580 * DAY_NS;
 
 const SPACING_NS: u64 = 172_800 * SECOND_NS;
 
