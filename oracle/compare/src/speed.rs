@@ -1,7 +1,7 @@
 //! How fast the port answers, and how fast the original does from a prepared ruleset, in one run: the best of several.
 //! The port checks and opens the whole book, or judges the whole row, at every call; its room is not cleared between calls. The
-//! original has its values ready. It has no tally: beside the port's stands the time of its timeline alone. A row is drawn and
-//! counted twice over: from the row itself, which the original has as a value, and from the book, where both begin anew.
+//! original has its values ready. It has no tally: beside the port's stands the time of its timeline alone. Rows are drawn and
+//! counted twice over: from the book, which the original has as a ruleset, and from the rows, which it has as timelines.
 
 use crate::book::{self, Event, Published, Record, Rule};
 use crate::drawn::{self, Cells};
@@ -18,6 +18,8 @@ const DAY: i64 = 86_400 * SECOND;
 /// 2026-01-01T00:00Z, and its day number.
 const YEAR: i64 = 1_767_225_600 * SECOND;
 const FIRST: i32 = 20_454;
+/// How many rows are counted.
+const ROWS: u16 = 100;
 
 const EXACT: Published = Published {
     tag: 0,
@@ -176,7 +178,7 @@ fn answered(name: &str, book: &[u8], query: Query, tries: usize, calls: usize) {
     told(name, ours, given, length);
 }
 
-fn drawn_cells(name: &str, bytes: &[u8], days: i64, columns: i64) {
+fn drawn_cells(name: &str, bytes: &[u8], days: i64, columns: i64, calls: usize) {
     let asked = Cells {
         start: YEAR,
         end: YEAR + days * DAY,
@@ -188,33 +190,33 @@ fn drawn_cells(name: &str, bytes: &[u8], days: i64, columns: i64) {
     let length = columns as usize + 2;
     let mut room = Room::new(length);
     assert_eq!(port::cells(bytes, &asked, &mut room), (0, length));
-    let given = best(10, 20, || {
+    let given = best(10, calls, || {
         black_box(drawn::render(black_box(&timeline), &asked));
     });
-    let ours = best(10, 20, || {
+    let ours = best(10, calls, || {
         black_box(port::cells(black_box(bytes), &asked, &mut room));
     });
     told(name, ours, given, length);
 }
 
-fn counted(name: &str, bytes: &[u8], many: u16) {
-    let marked: Vec<u8> = (0..many)
+fn counted(name: &str, bytes: &[u8], days: i64, calls: usize) {
+    let marked: Vec<u8> = (0..ROWS)
         .flat_map(|number| [make_rows::mark(number), bytes.to_vec()].concat())
         .collect();
     let rows = drawn::rows(&row::marked(&marked).expect("good rows"));
-    let at = YEAR + 4 * DAY + 10 * 3600 * SECOND;
+    let at = YEAR + days * DAY / 2;
     assert_eq!(port::count(&marked, at).0, 0);
-    let given = best(10, 20, || {
+    let given = best(10, calls, || {
         black_box(drawn::counted(black_box(&rows), at));
     });
-    let ours = best(10, 20, || {
+    let ours = best(10, calls, || {
         black_box(port::count(black_box(&marked), at));
     });
     told(name, ours, given, marked.len());
 }
 
 /// A row from the book itself: the window resolved, then drawn. The original begins with its ruleset.
-fn drawn_from_the_book(name: &str, book: &[u8], days: i64, columns: i64) {
+fn drawn_from_the_book(name: &str, book: &[u8], days: i64, columns: i64, calls: usize) {
     let asked = Cells {
         start: YEAR,
         end: YEAR + days * DAY,
@@ -230,36 +232,36 @@ fn drawn_from_the_book(name: &str, book: &[u8], days: i64, columns: i64) {
     let mut row = Room::new(venue.answer(&window).expect("an answer").len());
     let length = columns as usize + 2;
     let mut room = Room::new(length);
-    let given = best(10, 20, || {
+    let given = best(10, calls, || {
         let timeline = venue.timeline(black_box(asked.start), asked.end);
         black_box(drawn::render(&timeline, &asked));
     });
-    let ours = best(10, 20, || {
+    let ours = best(10, calls, || {
         let (_, written) = port::ask(black_box(book), &window, &mut row);
         black_box(port::cells(&row.bytes()[..written], &asked, &mut room));
     });
     told(name, ours, given, length);
 }
 
-/// So many rows from the book itself, and their count.
-fn counted_from_the_book(name: &str, book: &[u8], days: i64, many: u16) {
+/// Rows of a day from the book itself, and their count.
+fn counted_from_the_book(name: &str, book: &[u8], calls: usize) {
     let window = Query::Window {
         start: YEAR,
-        end: YEAR + days * DAY,
+        end: YEAR + DAY,
     };
-    let at = YEAR + 4 * DAY + 10 * 3600 * SECOND;
+    let at = YEAR + DAY / 2;
     let venue = Venue::open(book).expect("a good book");
     let mut row = Room::new(venue.answer(&window).expect("an answer").len());
     let mut marked = Vec::new();
-    let given = best(10, 20, || {
-        let rows: Vec<BoardRow> = (0..many)
-            .map(|_| BoardRow::new(venue.timeline(YEAR, black_box(YEAR + days * DAY)), None))
+    let given = best(10, calls, || {
+        let rows: Vec<BoardRow> = (0..ROWS)
+            .map(|_| BoardRow::new(venue.timeline(YEAR, black_box(YEAR + DAY)), None))
             .collect();
         black_box(drawn::counted(&rows, at));
     });
-    let ours = best(10, 20, || {
+    let ours = best(10, calls, || {
         marked.clear();
-        for number in 0..many {
+        for number in 0..ROWS {
             let (_, written) = port::ask(black_box(book), &window, &mut row);
             marked.extend(make_rows::mark(number));
             marked.extend_from_slice(&row.bytes()[..written]);
@@ -320,6 +322,31 @@ fn growth() {
     }
 }
 
+/// A book's rows of a day and of a year drawn, and a hundred of them counted: from the book, and from the rows themselves.
+fn rows_of(name: &str, book: &[u8], calls: usize) {
+    for days in [1, 365] {
+        let window = Query::Window {
+            start: YEAR,
+            end: YEAR + days * DAY,
+        };
+        let venue = Venue::open(book).expect("a good book");
+        let row = venue.answer(&window).expect("an answer");
+        for columns in [12, 512] {
+            let what = format!("{name}, {days} d in {columns}");
+            drawn_from_the_book(&format!("{what}, book"), book, days, columns, calls);
+            drawn_cells(&format!("{what}, row"), &row, days, columns, calls);
+        }
+        let what = format!("{name}, {days} d, count of {ROWS}");
+        if days == 1 {
+            counted_from_the_book(&format!("{what}, book"), book, calls);
+        }
+        // A hundred years of the largest book are 390 MB.
+        if row.len() < 1 << 20 {
+            counted(&format!("{what}, row"), &row, days, calls);
+        }
+    }
+}
+
 pub fn run() {
     println!("what                                     port          Rust    ratio    bytes");
     let point = Query::Point {
@@ -358,31 +385,12 @@ pub fn run() {
             calls,
         );
     }
-    for days in [1, 365] {
-        let length = Venue::open(&rich)
-            .expect("a good book")
-            .answer(&window(days))
-            .expect("an answer");
-        for columns in [12, 512] {
-            drawn_cells(
-                &format!("rich, {days} d in {columns} cells"),
-                &length,
-                days,
-                columns,
-            );
-        }
-        counted(&format!("rich, {days} d, count of 100"), &length, 100);
-    }
-    for (name, book) in [("A", &small), ("rich", &rich)] {
-        for (days, columns) in [(1, 12), (1, 512), (365, 12), (365, 512)] {
-            drawn_from_the_book(
-                &format!("{name}, from the book, {days} d in {columns}"),
-                book,
-                days,
-                columns,
-            );
-        }
-        counted_from_the_book(&format!("{name}, from the book, count of 100"), book, 1, 100);
+    for (name, book, calls) in [
+        ("A", &small, 20),
+        ("rich", &rich, 20),
+        ("largest", &largest, 1),
+    ] {
+        rows_of(name, book, calls);
     }
     growth();
 }
