@@ -2,7 +2,9 @@
 use mathlib.Core.Path.{_≡_, refl, sym, ap, _∙_}
 use mathlib.Core.Bool.{Bool, true, false}
 use Prim.Native.Nat.{ℕ, suc, _+_, _-_, _*_, _/_, _%_, _^_, _≤_, _<_}
-use native.Mathlib.Nat.{div-add-mod, mul-add-div, mul-add-div-right, mul-add-mod-self-left, div-eq-of-lt, mod-eq-of-lt, zero-div, zero-mod, div-le-of-le-mul, div-lt-iff-lt-mul, le-div-iff-mul-le, div-mul-le-self, mod-lt, mul-add, add-mul, zero-mul, mul-zero, mul-comm, mul-suc, le-mul-of-pos-right, mul-le-mul-left, mul-le-mul-right, mul-lt-mul-of-pos-left, mul-lt-mul-of-pos-right}
+use native.Mathlib.Nat.{div-add-mod, mul-add-div, mul-add-div-right, mul-add-mod-self-left, div-eq-of-lt, mod-eq-of-lt, zero-div, zero-mod, mod-lt}
+use native.Mathlib.Nat.{div-le-of-le-mul, div-lt-iff-lt-mul, le-div-iff-mul-le, div-mul-le-self}
+use native.Mathlib.Nat.{mul-add, add-mul, zero-mul, mul-zero, mul-comm, mul-suc, le-mul-of-pos-right, mul-le-mul-left, mul-le-mul-right, mul-lt-mul-of-pos-left, mul-lt-mul-of-pos-right}
 use native.Mathlib.Decide.{decLt}
 use native.Mathlib.Numerals.{add-one}
 use native.Mathlib.Omega.{arith}
@@ -130,7 +132,8 @@ module _ (g : Grid) (o : Good g) where
           }
 
     module _ (h : g .columns - p .rest ≤ x .part) where
-      over : (g .span * (x .c + 1) / g .columns ≡ g .span * x .c / g .columns + g .span / g .columns + 1) × (g .span * (x .c + 1) % g .columns ≡ g .span * x .c % g .columns + g .span % g .columns - g .columns)
+      over : (g .span * (x .c + 1) / g .columns ≡ g .span * x .c / g .columns + g .span / g .columns + 1)
+          × (g .span * (x .c + 1) % g .columns ≡ g .span * x .c % g .columns + g .span % g .columns - g .columns)
       over = floor-over (g .span) (g .columns) (o .some) (x .c) (omega (arith, a .part, w .rest, rest-less))
 
       pub over-fits : x .at + p .whole + 1 < 2 ^ 64

@@ -14,7 +14,8 @@ use Rattle.rows.specs.Rows.{goodPhase, goodEvent, goodSegment, goodMark,
 use Rattle.rows.specs.Telling.{segmentOf, spanOf, endOf, goodOn, markAt, rowsAt}
 use Rattle.rows.specs.declared.Segment.{Segment}
 use Rattle.rows.proofs.Turns.{untrue, phase-holds, gap-holds, mark-holds, event-holds, events-room, mark-on, within, Goes, ends, phases, gaps, anew, none, goes, at-end}
-use Rattle.rows.proofs.Places.{holds, segment-room, no-mark, no-segment, good-look, good-left, rowAt, rows-mark, segments-end, mark-end, segments-phase, segments-gap, segments-mark, mark-phase, mark-gap, mark-mark}
+use Rattle.rows.proofs.Places.{holds, segment-room, no-mark, no-segment, good-look, good-left, rowAt, rows-mark}
+use Rattle.rows.proofs.Places.{segments-end, mark-end, segments-phase, segments-gap, segments-mark, mark-phase, mark-gap, mark-mark}
 
 -- ---- where to begin
 
@@ -53,12 +54,13 @@ segmented s at o n =
     by : goodSegment s at ≡ true → o .least ≤ fromAt s at → Segmented s at
     by g l =
         let t = holds s at g in
-        let e = and-true (goodEvents s (segmentOf s at .behind) (segmentOf s at .events)) (goodAt false s (endOf (segmentOf s at)) (segmentOf s at .to .0)) (sym (t .good false (o .least) l) ∙ o .good) in
+        let x = segmentOf s at in
+        let e = and-true (goodEvents s (x .behind) (x .events)) (goodAt false s (endOf x) (x .to .0)) (sym (t .good false (o .least) l) ∙ o .good) in
         record {
           segment = g;
           events = e .0;
-          inside = events-room s (segmentOf s at .behind) (segmentOf s at .events) (t .inside) (e .0);
-          on = record { least = segmentOf s at .to .0; good = e .1 };
+          inside = events-room s (x .behind) (x .events) (t .inside) (e .0);
+          on = record { least = x .to .0; good = e .1 };
         }
 
     go : Goes false (length s) s at (o .least) → Segmented s at

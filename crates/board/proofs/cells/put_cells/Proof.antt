@@ -1,11 +1,16 @@
 use Rattle.board.proofs.Drawn.{Drawing, draw-start, all-filled, draw-blank, draw-on, draw-end}
 use Rattle.board.proofs.Columns.{first-column}
-use Rattle.board.specs.Private.{ColumnOf}
-use Rattle.rows.proofs.Laws.{segmented, end-inside, end-after}
+use Rattle.board.specs.Private.{Good, PaceOf, ColumnOf}
+use Rattle.rows.specs.Rows.{segmentsAt}
+use Rattle.rows.specs.Telling.{endOf}
+use Rattle.rows.proofs.Laws.{Segmented, segmented, end-inside, end-after}
 use Rattle.rows.proofs.Places.{segments-end}
-use Prim.Native.Nat.{_+_, _-_}
+use Prim.Native.Nat.{ℕ, _+_, _-_, _≤_}
+use mathlib.Core.Path.{_≡_}
+use mathlib.Core.List.{List, []}
 use lib.ListN.{length}
 use native.Mathlib.Omega.{arith}
+use borrow.Author.Needs.{needs}
 use Rattle.board.proofs.cells.put_cells.Statement.{statement}
 use Rattle.board.proofs.cells.put_cells.Tie as tie
 
@@ -15,108 +20,102 @@ Inv-loop row grid out₀ pace at₀ column₀ out at column = ColumnOf grid colu
 abbrev μ-loop : tie.MeasureT-loop
 μ-loop row grid out₀ pace at₀ column₀ out at column = (length row - at) + (grid .columns - column .c)
 
-pace-of-requires : tie.Need-pace-of-requires Inv-loop μ-loop
-pace-of-requires c κs =
-    let at-start = c .before .before in
-    (at-start .pre) .1
+-- a need, or a place, at this invariant and measure
+abbrev At : (tie.InvT-loop → tie.MeasureT-loop → Type 0) → Type 0
+At it = it Inv-loop μ-loop
 
-loop-holds : tie.Need-loop-holds Inv-loop μ-loop
-loop-holds c =
-    let at-start = c .before .before .before in
-    (first-column (at-start .args .grid) ((at-start .pre) .1), draw-start (at-start .args .grid) ((at-start .pre) .1) (at-start .args .row .now) (at-start .args .out .now) ((at-start .pre) .2) ((at-start .pre) .0))
+-- the row, at a turn of the loop
+abbrev rowIn : At tie.At-loop → List ℕ
+rowIn c = c .before .before .before .before .args .row .now
 
-fill-requires : tie.Need-fill-requires Inv-loop μ-loop
-fill-requires c κs =
-    let at-loop = c .before .before .before .before .before in
-    let at-pace-of = at-loop .before in
-    let at-start = at-pace-of .before .before .before in
-    (((at-start .pre) .1), (at-pace-of .pace-of .ensures), ((at-loop .loop .inv) .0), omega (arith, ((at-start .pre) .2), ((at-loop .loop .inv) .1 .painted .kept)))
+-- at every turn cells may be filled
+ready : (c : At tie.At-loop)
+    → let grid = c .before .before .before .before .args .grid in
+    Good grid × PaceOf grid (c .before .pace-of .result) × ColumnOf grid (c .loop .column) × (grid .columns + 2 ≤ length (c .loop .out))
+ready c =
+    let at-start = c .before .before .before .before in
+    (at-start .pre .1, c .before .pace-of .ensures, c .loop .inv .0, omega (arith, at-start .pre .2, c .loop .inv .1 .painted .kept))
 
-loop-less : tie.Need-loop-less Inv-loop μ-loop
+-- a segment stands here
+here : (c : At tie.Else2) → let l = c .before .before .before .before in Segmented (rowIn l) (l .loop .at)
+here c = segmented _ _ (c .before .before .before .before .loop .inv .1 .ahead .on) (c .if2 .left)
+
+-- it and its events lie in the row
+inside : (c : At tie.After-segment-at) → endOf (c .segment-at .result) ≤ length (rowIn (c .before .before .before .before .before))
+inside c = end-inside (here (c .before)) (c .segment-at .ensures)
+
+-- or none is left
+none-left : (c : At tie.Then2) → let l = c .before .before .before .before in segmentsAt (rowIn l) (l .loop .at) ≡ []
+none-left c = segments-end (rowIn (c .before .before .before .before)) _ (c .if2 .taken)
+
+loop-holds : At tie.Need-loop-holds
+loop-holds c = let pre = c .before .before .before .pre in (first-column _ (pre .1), draw-start _ (pre .1) _ _ (pre .2) (pre .0))
+
+fill-requires : At tie.Need-fill-requires
+fill-requires c κs = ready (c .before .before .before .before .before)
+
+loop-less : At tie.Need-loop-less
 loop-less c =
     let at-fill = c .before .before in
     let at-if2 = at-fill .before .before in
-    let at-if1 = at-if2 .before in
-    let at-loop = at-if1 .before .before .before in
-    let at-start = at-loop .before .before .before .before in
-    omega (arith, (at-if1 .if1 .taken), all-filled (at-start .args .grid) ((at-start .pre) .1) (at-start .args .row .now) (at-start .args .out .now) ((at-start .pre) .2) _ _ _ ((at-loop .loop .inv) .1) (segments-end (at-start .args .row .now) (at-loop .loop .at) (at-if2 .if2 .taken)) _ _ ((at-fill .fill .ensures) .1))
+    let at-loop = at-if2 .before .before .before .before in
+    let pre = at-loop .before .before .before .before .pre in
+    let filled = all-filled _ (pre .1) _ _ (pre .2) _ _ _ (at-loop .loop .inv .1) (none-left at-if2) _ _ (at-fill .fill .ensures .1) in
+    omega (arith, at-if2 .before .if1 .taken, filled)
 
-loop-again : tie.Need-loop-again Inv-loop μ-loop
+loop-again : At tie.Need-loop-again
 loop-again c =
     let at-fill = c .before .before in
     let at-if2 = at-fill .before .before in
     let at-loop = at-if2 .before .before .before .before in
-    let at-start = at-loop .before .before .before .before in
-    (((at-fill .fill .ensures) .0), draw-blank (at-start .args .grid) ((at-start .pre) .1) (at-start .args .row .now) (at-start .args .out .now) ((at-start .pre) .2) _ _ _ ((at-loop .loop .inv) .1) (segments-end (at-start .args .row .now) (at-loop .loop .at) (at-if2 .if2 .taken)) _ _ ((at-fill .fill .ensures) .1))
+    let pre = at-loop .before .before .before .before .pre in
+    (at-fill .fill .ensures .0, draw-blank _ (pre .1) _ _ (pre .2) _ _ _ (at-loop .loop .inv .1) (none-left at-if2) _ _ (at-fill .fill .ensures .1))
 
-segment-at-requires : tie.Need-segment-at-requires Inv-loop μ-loop
-segment-at-requires c κs =
-    let at-if2 = c in
-    let at-loop = at-if2 .before .before .before .before in
-    let at-start = at-loop .before .before .before .before in
-    (segmented (at-start .args .row .now) (at-loop .loop .at) ((at-loop .loop .inv) .1 .ahead .on) (at-if2 .if2 .left)) .segment
+segment-at-requires : At tie.Need-segment-at-requires
+segment-at-requires c κs = here c .segment
 
-fill-requires-2 : tie.Need-fill-requires-2 Inv-loop μ-loop
-fill-requires-2 c κs =
-    let at-loop = c .before .before .before .before .before .before .before .before in
-    let at-pace-of = at-loop .before in
-    let at-start = at-pace-of .before .before .before in
-    (((at-start .pre) .1), (at-pace-of .pace-of .ensures), ((at-loop .loop .inv) .0), omega (arith, ((at-start .pre) .2), ((at-loop .loop .inv) .1 .painted .kept)))
+fill-requires-2 : At tie.Need-fill-requires-2
+fill-requires-2 c κs = ready (c .before .before .before .before .before .before .before .before)
 
-glyph-of-requires : tie.Need-glyph-of-requires Inv-loop μ-loop
-glyph-of-requires c κs = tt
-
-fill-requires-3 : tie.Need-fill-requires-3 Inv-loop μ-loop
+fill-requires-3 : At tie.Need-fill-requires-3
 fill-requires-3 c κs =
     let at-fill2 = c .before .before .before .before in
-    let at-loop = at-fill2 .before .before .before .before .before .before .before .before .before in
-    let at-pace-of = at-loop .before in
-    let at-start = at-pace-of .before .before .before in
-    (((at-start .pre) .1), (at-pace-of .pace-of .ensures), ((at-fill2 .fill2 .ensures) .0), omega (arith, ((at-start .pre) .2), ((at-loop .loop .inv) .1 .painted .kept), ((at-fill2 .fill2 .ensures) .1 .kept)))
+    let first = ready (at-fill2 .before .before .before .before .before .before .before .before .before) in
+    (first .0, first .1, at-fill2 .fill2 .ensures .0, omega (arith, first .3, at-fill2 .fill2 .ensures .1 .kept))
 
-end-of-requires : tie.Need-end-of-requires Inv-loop μ-loop
+end-of-requires : At tie.Need-end-of-requires
 end-of-requires c κs =
     let at-segment-at = c .before .before .before .before .before .before .before .before .before .before .before in
-    let at-if2 = at-segment-at .before in
-    let at-loop = at-if2 .before .before .before .before in
-    let at-shared-slice-known = at-loop .before .before .before in
-    let at-start = at-shared-slice-known .before in
-    omega (arith, end-inside (segmented (at-start .args .row .now) (at-loop .loop .at) ((at-loop .loop .inv) .1 .ahead .on) (at-if2 .if2 .left)) (at-segment-at .segment-at .ensures), (at-shared-slice-known .shared-slice-known .given) (length (at-start .args .row .now)))
+    let l = at-segment-at .before .before .before .before .before in
+    omega (arith, inside at-segment-at, l .before .before .before .shared-slice-known .given (length (rowIn l)))
 
-loop-less-2 : tie.Need-loop-less-2 Inv-loop μ-loop
+loop-less-2 : At tie.Need-loop-less-2
 loop-less-2 c =
-    let at-end-of = c in
-    let at-fill3 = at-end-of .before .before .before in
+    let at-fill3 = c .before .before .before in
     let at-fill2 = at-fill3 .before .before .before .before .before in
     let at-segment-at = at-fill2 .before .before .before .before in
-    let at-if2 = at-segment-at .before in
-    let at-loop = at-if2 .before .before .before .before in
-    let at-start = at-loop .before .before .before .before in
-    omega (arith, end-inside (segmented (at-start .args .row .now) (at-loop .loop .at) ((at-loop .loop .inv) .1 .ahead .on) (at-if2 .if2 .left)) (at-segment-at .segment-at .ensures), end-after (segmented (at-start .args .row .now) (at-loop .loop .at) ((at-loop .loop .inv) .1 .ahead .on) (at-if2 .if2 .left)) (at-segment-at .segment-at .ensures), ((at-fill2 .fill2 .ensures) .1 .after), ((at-fill3 .fill3 .ensures) .1 .after), (at-end-of .end-of .ensures))
+    let after = end-after (here (at-segment-at .before)) (at-segment-at .segment-at .ensures) in
+    omega (arith, inside at-segment-at, after, at-fill2 .fill2 .ensures .1 .after, at-fill3 .fill3 .ensures .1 .after, c .end-of .ensures)
 
-loop-again-2 : tie.Need-loop-again-2 Inv-loop μ-loop
+loop-again-2 : At tie.Need-loop-again-2
 loop-again-2 c =
-    let at-end-of = c in
-    let at-fill3 = at-end-of .before .before .before in
+    let at-fill3 = c .before .before .before in
     let at-glyph-of = at-fill3 .before in
     let at-fill2 = at-glyph-of .before .before .before .before in
     let at-segment-at = at-fill2 .before .before .before .before in
     let at-if2 = at-segment-at .before in
     let at-loop = at-if2 .before .before .before .before in
-    let at-start = at-loop .before .before .before .before in
-    (((at-fill3 .fill3 .ensures) .0), rw (at-end-of .end-of .ensures) (draw-on (at-start .args .grid) ((at-start .pre) .1) (at-start .args .row .now) (at-start .args .out .now) ((at-start .pre) .2) _ _ _ ((at-loop .loop .inv) .1) _ (at-segment-at .segment-at .ensures) (segmented (at-start .args .row .now) (at-loop .loop .at) ((at-loop .loop .inv) .1 .ahead .on) (at-if2 .if2 .left)) _ _ _ _ _ ((at-fill2 .fill2 .ensures) .1) (at-glyph-of .glyph-of .ensures) ((at-fill3 .fill3 .ensures) .1)))
+    let pre = at-loop .before .before .before .before .pre in
+    let drawn =
+    draw-on _ (pre .1) _ _ (pre .2) _ _ _ (at-loop .loop .inv .1) _ (at-segment-at .segment-at .ensures) (here at-if2)
+    _ _ _ _ _ (at-fill2 .fill2 .ensures .1) (at-glyph-of .glyph-of .ensures) (at-fill3 .fill3 .ensures .1) in
+    (at-fill3 .fill3 .ensures .0, rw (c .end-of .ensures) drawn)
 
-same-length : tie.Need-same-length Inv-loop μ-loop
-same-length c =
-    let at-loop = c .before .before .before in
-    (at-loop .loop .inv) .1 .painted .kept
-
-returns : tie.Need-returns Inv-loop μ-loop
+returns : At tie.Need-returns
 returns c =
-    let at-if1 = c in
-    let at-loop = at-if1 .before .before .before in
-    let at-start = at-loop .before .before .before .before in
-    draw-end (at-start .args .grid) ((at-start .pre) .1) (at-start .args .row .now) (at-start .args .out .now) ((at-start .pre) .2) _ _ _ ((at-loop .loop .inv) .1) (at-if1 .if1 .left)
+    let at-loop = c .before .before .before in
+    let pre = at-loop .before .before .before .before .pre in
+    draw-end _ (pre .1) _ _ (pre .2) _ _ _ (at-loop .loop .inv .1) (c .if1 .left)
 
 pub put-cells-spec : {M : Type 1} → statement M
 put-cells-spec =
@@ -124,17 +123,17 @@ put-cells-spec =
     (tie.spec
     Inv-loop
     μ-loop
-    pace-of-requires
+    (λ c κs. search needs)
     loop-holds
     fill-requires
     loop-less
     loop-again
     segment-at-requires
     fill-requires-2
-    glyph-of-requires
+    (λ c κs. tt)
     fill-requires-3
     end-of-requires
     loop-less-2
     loop-again-2
-    same-length
+    (λ c. search needs)
     returns)

@@ -1,7 +1,8 @@
 use Rattle.classes.proofs.Shown.{Along, along-start, along-end, along-mark, along-segment, along-event}
-use Rattle.rows.proofs.Steps.{told, segment-after}
-use Prim.Native.Nat.{_-_}
-use mathlib.Core.Path.{sym, _∙_}
+use Rattle.rows.specs.declared.Stands.{Stands}
+use Rattle.rows.proofs.Steps.{Tells, told, segment-after}
+use Prim.Native.Nat.{_-_, _^_, _<_}
+use mathlib.Core.Path.{_≡_, sym, _∙_}
 use lib.ListN.{length}
 use native.Mathlib.Omega.{arith}
 use borrow.Author.Needs.{needs}
@@ -14,130 +15,79 @@ Inv-loop rows start marks t at₀ least₀ waiting₀ shown₀ at least waiting 
 abbrev μ-loop : tie.MeasureT-loop
 μ-loop rows start marks t at₀ least₀ waiting₀ shown₀ at least waiting shown = length rows - at
 
-loop-holds : tie.Need-loop-holds Inv-loop μ-loop
-loop-holds c =
-    let at-start = c .before in
-    along-start (at-start .args .marks) (at-start .args .rows .now) (at-start .args .start) (at-start .args .t) (at-start .pre)
+-- a need, or a place, at this invariant and measure
+abbrev At : (tie.InvT-loop → tie.MeasureT-loop → Type 0) → Type 0
+At it = it Inv-loop μ-loop
 
-stands-at-requires : tie.Need-stands-at-requires Inv-loop μ-loop
-stands-at-requires c κs =
-    let at-loop = c in
-    (at-loop .loop .inv) .going .inside
+-- what follows from what stands at the place
+tells : (c : At tie.After-stands-at) {x : Stands} → c .stands-at .result ≡ x
+    → let args = c .before .before .before .args in
+    let now = c .before .loop in
+    Tells (args .marks) (args .rows .now) (now .at) (now .least) (now .waiting) x
+tells c e = told _ _ _ _ _ (c .before .loop .inv .going .inside) (sym (c .stands-at .ensures) ∙ e)
 
-enum-told : tie.Need-enum-told Inv-loop μ-loop
-enum-told c = search needs
+-- the rows are no longer than a place can count
+short : (c : At tie.At-loop) → length (c .before .before .args .rows .now) < 2 ^ 64
+short c = omega (arith, c .before .shared-slice-known .given (length (c .before .before .args .rows .now)))
 
-returns : tie.Need-returns Inv-loop μ-loop
+loop-holds : At tie.Need-loop-holds
+loop-holds c = along-start _ _ _ _ (c .before .pre)
+
+returns : At tie.Need-returns
 returns c =
-    let at-enum-told = c in
-    let at-stands-at = at-enum-told .before .before in
-    let at-loop = at-stands-at .before in
-    let at-start = at-loop .before .before in
-    (at-loop .loop .inv) .going .same ∙ told (at-start .args .marks) (at-start .args .rows .now) (at-loop .loop .at) (at-loop .loop .least) (at-loop .loop .waiting) ((at-loop .loop .inv) .going .inside) (sym (at-stands-at .stands-at .ensures) ∙ (at-enum-told .enum-told .given) .1)
+    let at-stands-at = c .before .before in
+    (at-stands-at .before .loop .inv .going .same) ∙ tells at-stands-at (c .enum-told .given .1)
 
-enum-told-2 : tie.Need-enum-told-2 Inv-loop μ-loop
-enum-told-2 c = search needs
-
-returns-2 : tie.Need-returns-2 Inv-loop μ-loop
+returns-2 : At tie.Need-returns-2
 returns-2 c =
-    let at-enum-told2 = c in
-    let at-stands-at = at-enum-told2 .before .before in
-    let at-loop = at-stands-at .before in
-    let at-start = at-loop .before .before in
-    along-end (at-start .args .marks) (at-start .args .rows .now) (at-start .args .start) (at-start .args .t) (at-loop .loop .inv) (told (at-start .args .marks) (at-start .args .rows .now) (at-loop .loop .at) (at-loop .loop .least) (at-loop .loop .waiting) ((at-loop .loop .inv) .going .inside) (sym (at-stands-at .stands-at .ensures) ∙ (at-enum-told2 .enum-told2 .given) .1))
+    let at-stands-at = c .before .before in
+    along-end _ _ _ _ (at-stands-at .before .loop .inv) (tells at-stands-at (c .enum-told2 .given .1))
 
-enum-told-3 : tie.Need-enum-told-3 Inv-loop μ-loop
-enum-told-3 c = search needs
-
-add-t12 : tie.Need-add-t12 Inv-loop μ-loop
+add-t12 : At tie.Need-add-t12
 add-t12 c =
-    let at-enum-told3 = c in
-    let at-stands-at = at-enum-told3 .before .before in
-    let at-loop = at-stands-at .before in
-    let at-shared-slice-known = at-loop .before in
-    let at-start = at-shared-slice-known .before in
-    let t = told (at-start .args .marks) (at-start .args .rows .now) (at-loop .loop .at) (at-loop .loop .least) (at-loop .loop .waiting) ((at-loop .loop .inv) .going .inside) (sym (at-stands-at .stands-at .ensures) ∙ (at-enum-told3 .enum-told3 .given) .1) in omega (arith, t .inside, (at-shared-slice-known .shared-slice-known .given) (length (at-start .args .rows .now)))
+    let at-stands-at = c .before .before in
+    omega (arith, tells at-stands-at (c .enum-told3 .given .1) .inside, short (at-stands-at .before))
 
-returns-3 : tie.Need-returns-3 Inv-loop μ-loop
+returns-3 : At tie.Need-returns-3
 returns-3 c =
-    let at-enum-told3 = c in
-    let at-stands-at = at-enum-told3 .before .before in
-    let at-loop = at-stands-at .before in
-    let at-start = at-loop .before .before in
-    along-mark (at-start .args .marks) (at-start .args .rows .now) (at-start .args .start) (at-start .args .t) (at-loop .loop .inv) (told (at-start .args .marks) (at-start .args .rows .now) (at-loop .loop .at) (at-loop .loop .least) (at-loop .loop .waiting) ((at-loop .loop .inv) .going .inside) (sym (at-stands-at .stands-at .ensures) ∙ (at-enum-told3 .enum-told3 .given) .1))
+    let at-stands-at = c .before .before in
+    along-mark _ _ _ _ (at-stands-at .before .loop .inv) (tells at-stands-at (c .enum-told3 .given .1))
 
-enum-told-4 : tie.Need-enum-told-4 Inv-loop μ-loop
-enum-told-4 c = search needs
+segment-at-requires : At tie.Need-segment-at-requires
+segment-at-requires c κs = tells (c .before .before) (c .enum-told4 .given .1) .segment
 
-segment-at-requires : tie.Need-segment-at-requires Inv-loop μ-loop
-segment-at-requires c κs =
-    let at-enum-told4 = c in
-    let at-stands-at = at-enum-told4 .before .before in
-    let at-loop = at-stands-at .before in
-    let at-start = at-loop .before .before in
-    told (at-start .args .marks) (at-start .args .rows .now) (at-loop .loop .at) (at-loop .loop .least) (at-loop .loop .waiting) ((at-loop .loop .inv) .going .inside) (sym (at-stands-at .stands-at .ensures) ∙ (at-enum-told4 .enum-told4 .given) .1) .segment
-
-class-in-requires : tie.Need-class-in-requires Inv-loop μ-loop
-class-in-requires c κs = tt
-
-first-requires : tie.Need-first-requires Inv-loop μ-loop
-first-requires c κs = tt
-
-loop-less : tie.Need-loop-less Inv-loop μ-loop
+loop-less : At tie.Need-loop-less
 loop-less c =
     let at-segment-at = c .before .before .before in
     let at-enum-told4 = at-segment-at .before in
     let at-stands-at = at-enum-told4 .before .before in
-    let at-loop = at-stands-at .before in
-    let at-start = at-loop .before .before in
-    segment-after ((at-loop .loop .inv) .going) (told (at-start .args .marks) (at-start .args .rows .now) (at-loop .loop .at) (at-loop .loop .least) (at-loop .loop .waiting) ((at-loop .loop .inv) .going .inside) (sym (at-stands-at .stands-at .ensures) ∙ (at-enum-told4 .enum-told4 .given) .1)) (at-segment-at .segment-at .ensures)
+    segment-after (at-stands-at .before .loop .inv .going) (tells at-stands-at (at-enum-told4 .enum-told4 .given .1)) (at-segment-at .segment-at .ensures)
 
-loop-again : tie.Need-loop-again Inv-loop μ-loop
+loop-again : At tie.Need-loop-again
 loop-again c =
     let at-first = c .before in
     let at-class-in = at-first .before in
     let at-segment-at = at-class-in .before in
     let at-enum-told4 = at-segment-at .before in
     let at-stands-at = at-enum-told4 .before .before in
-    let at-loop = at-stands-at .before in
-    let at-start = at-loop .before .before in
-    along-segment (at-start .args .marks) (at-start .args .rows .now) (at-start .args .start) (at-start .args .t) (at-loop .loop .inv) (told (at-start .args .marks) (at-start .args .rows .now) (at-loop .loop .at) (at-loop .loop .least) (at-loop .loop .waiting) ((at-loop .loop .inv) .going .inside) (sym (at-stands-at .stands-at .ensures) ∙ (at-enum-told4 .enum-told4 .given) .1)) (at-segment-at .segment-at .ensures) (at-class-in .class-in .ensures) (at-first .first .ensures)
+    along-segment _ _ _ _ (at-stands-at .before .loop .inv) (tells at-stands-at (at-enum-told4 .enum-told4 .given .1))
+    (at-segment-at .segment-at .ensures) (at-class-in .class-in .ensures) (at-first .first .ensures)
 
-enum-told-5 : tie.Need-enum-told-5 Inv-loop μ-loop
-enum-told-5 c = search needs
-
-add-at : tie.Need-add-at Inv-loop μ-loop
+add-at : At tie.Need-add-at
 add-at c =
-    let at-enum-told5 = c in
-    let at-stands-at = at-enum-told5 .before .before in
-    let at-loop = at-stands-at .before in
-    let at-shared-slice-known = at-loop .before in
-    let at-start = at-shared-slice-known .before in
-    let t = told (at-start .args .marks) (at-start .args .rows .now) (at-loop .loop .at) (at-loop .loop .least) (at-loop .loop .waiting) ((at-loop .loop .inv) .going .inside) (sym (at-stands-at .stands-at .ensures) ∙ (at-enum-told5 .enum-told5 .given) .1) in omega (arith, t .inside, (at-shared-slice-known .shared-slice-known .given) (length (at-start .args .rows .now)))
+    let at-stands-at = c .before .before in
+    omega (arith, tells at-stands-at (c .enum-told5 .given .1) .inside, short (at-stands-at .before))
 
-sub-waiting : tie.Need-sub-waiting Inv-loop μ-loop
-sub-waiting c =
-    let at-enum-told5 = c in
-    let at-stands-at = at-enum-told5 .before .before in
-    let at-loop = at-stands-at .before in
-    let at-start = at-loop .before .before in
-    let t = told (at-start .args .marks) (at-start .args .rows .now) (at-loop .loop .at) (at-loop .loop .least) (at-loop .loop .waiting) ((at-loop .loop .inv) .going .inside) (sym (at-stands-at .stands-at .ensures) ∙ (at-enum-told5 .enum-told5 .given) .1) in omega (arith, t .some)
+sub-waiting : At tie.Need-sub-waiting
+sub-waiting c = omega (arith, tells (c .before .before) (c .enum-told5 .given .1) .some)
 
-loop-less-2 : tie.Need-loop-less-2 Inv-loop μ-loop
-loop-less-2 c =
-    let at-enum-told5 = c in
-    let at-stands-at = at-enum-told5 .before .before in
-    let at-loop = at-stands-at .before in
-    let at-start = at-loop .before .before in
-    let t = told (at-start .args .marks) (at-start .args .rows .now) (at-loop .loop .at) (at-loop .loop .least) (at-loop .loop .waiting) ((at-loop .loop .inv) .going .inside) (sym (at-stands-at .stands-at .ensures) ∙ (at-enum-told5 .enum-told5 .given) .1) in omega (arith, t .inside)
+loop-less-2 : At tie.Need-loop-less-2
+loop-less-2 c = omega (arith, tells (c .before .before) (c .enum-told5 .given .1) .inside)
 
-loop-again-2 : tie.Need-loop-again-2 Inv-loop μ-loop
+loop-again-2 : At tie.Need-loop-again-2
 loop-again-2 c =
-    let at-enum-told5 = c in
-    let at-stands-at = at-enum-told5 .before .before in
-    let at-loop = at-stands-at .before in
-    let at-start = at-loop .before .before in
-    along-event (at-start .args .marks) (at-start .args .rows .now) (at-start .args .start) (at-start .args .t) (at-loop .loop .inv) (told (at-start .args .marks) (at-start .args .rows .now) (at-loop .loop .at) (at-loop .loop .least) (at-loop .loop .waiting) ((at-loop .loop .inv) .going .inside) (sym (at-stands-at .stands-at .ensures) ∙ (at-enum-told5 .enum-told5 .given) .1))
+    let at-stands-at = c .before .before in
+    along-event _ _ _ _ (at-stands-at .before .loop .inv) (tells at-stands-at (c .enum-told5 .given .1))
 
 pub row-class-spec : {M : Type 1} → statement M
 row-class-spec =
@@ -146,21 +96,21 @@ row-class-spec =
     Inv-loop
     μ-loop
     loop-holds
-    stands-at-requires
-    enum-told
+    (λ c κs. search needs)
+    (λ c. search needs)
     returns
-    enum-told-2
+    (λ c. search needs)
     returns-2
-    enum-told-3
+    (λ c. search needs)
     add-t12
     returns-3
-    enum-told-4
+    (λ c. search needs)
     segment-at-requires
-    class-in-requires
-    first-requires
+    (λ c κs. tt)
+    (λ c κs. tt)
     loop-less
     loop-again
-    enum-told-5
+    (λ c. search needs)
     add-at
     sub-waiting
     loop-less-2

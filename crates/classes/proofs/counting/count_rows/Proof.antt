@@ -1,9 +1,10 @@
 use Rattle.classes.proofs.Replying.{count-bad, count-told}
 use Rattle.classes.proofs.Sums.{Summing, sum-start, sum-few, sum-on, sum-end}
-use Rattle.classes.specs.Reading.{Classes}
+use Rattle.classes.specs.Reading.{Classes, Few}
+use Rattle.classes.specs.declared.classing.Classed.{Classed}
 use Prim.Native.Nat.{_-_}
 use mathlib.Core.Bool.{true}
-use mathlib.Core.Path.{subst, _∙_}
+use mathlib.Core.Path.{_≡_, subst, _∙_}
 use lib.ListN.{length}
 use native.Mathlib.Omega.{arith}
 use borrow.Author.Needs.{needs}
@@ -16,80 +17,57 @@ Inv-loop rows t sum₀ at₀ sum at = Summing rows t at sum
 abbrev μ-loop : tie.MeasureT-loop
 μ-loop rows t sum₀ at₀ sum at = length rows - at
 
-loop-holds : tie.Need-loop-holds Inv-loop μ-loop
-loop-holds c =
-    let at-start = c .before in
-    sum-start (at-start .args .rows .now) (at-start .args .t) (at-start .pre)
+-- a need, or a place, at this invariant and measure
+abbrev At : (tie.InvT-loop → tie.MeasureT-loop → Type 0) → Type 0
+At it = it Inv-loop μ-loop
 
-row-class-requires : tie.Need-row-class-requires Inv-loop μ-loop
-row-class-requires c κs =
-    let at-loop = c in
-    (at-loop .loop .inv) .inside
+-- each count has room for one more
+few : (c : At tie.At-loop) → Few (c .loop .sum)
+few c =
+    let at-start = c .before .before in
+    sum-few _ _ (c .loop .inv) (omega (arith, c .before .shared-slice-known .given (length (at-start .args .rows .now))))
 
-enum-told : tie.Need-enum-told Inv-loop μ-loop
-enum-told c = search needs
+-- what the class of the row tells of it
+tells : (c : At tie.After-row-class) {x : Classed} → c .row-class .result ≡ x
+    → let at-loop = c .before in
+    let args = at-loop .before .before .args in
+    Classes true (args .rows .now) (at-loop .loop .at) (args .t) x
+tells c e = subst (Classes true _ _ _) e (c .row-class .ensures)
 
-no-count-requires : tie.Need-no-count-requires Inv-loop μ-loop
-no-count-requires c κs = tt
+loop-holds : At tie.Need-loop-holds
+loop-holds c = sum-start _ _ (c .before .pre)
 
-returns : tie.Need-returns Inv-loop μ-loop
+returns : At tie.Need-returns
 returns c =
-    let at-no-count = c in
-    let at-enum-told = at-no-count .before in
-    let at-row-class = at-enum-told .before .before in
-    let at-loop = at-row-class .before in
-    let at-start = at-loop .before .before in
-    count-bad (at-start .args .rows .now) (at-start .args .t) ((at-loop .loop .inv) .good ∙ subst (Classes true (at-start .args .rows .now) (at-loop .loop .at) (at-start .args .t)) ((at-enum-told .enum-told .given) .1) (at-row-class .row-class .ensures)) (at-no-count .no-count .ensures)
+    let at-row-class = c .before .before .before in
+    count-bad _ _ ((at-row-class .before .loop .inv .good) ∙ tells at-row-class (c .before .enum-told .given .1)) (c .no-count .ensures)
 
-enum-known-shown : tie.Need-enum-known-shown Inv-loop μ-loop
-enum-known-shown c = search needs
+add-requires : At tie.Need-add-requires
+add-requires c κs = few (c .before .before .before .before)
 
-add-requires : tie.Need-add-requires Inv-loop μ-loop
-add-requires c κs =
-    let at-loop = c .before .before .before .before in
-    let at-shared-slice-known = at-loop .before in
-    let at-start = at-shared-slice-known .before in
-    sum-few (at-start .args .rows .now) (at-start .args .t) (at-loop .loop .inv) (omega (arith, (at-shared-slice-known .shared-slice-known .given) (length (at-start .args .rows .now))))
-
-counted-requires : tie.Need-counted-requires Inv-loop μ-loop
-counted-requires c κs = tt
-
-returns-2 : tie.Need-returns-2 Inv-loop μ-loop
+returns-2 : At tie.Need-returns-2
 returns-2 c =
-    let at-counted = c in
-    let at-add = at-counted .before in
+    let at-add = c .before in
     let at-shown = at-add .before .before in
     let at-row-class = at-shown .before .before in
-    let at-loop = at-row-class .before in
-    let at-start = at-loop .before .before in
-    let only = subst (Classes true (at-start .args .rows .now) (at-loop .loop .at) (at-start .args .t)) ((at-shown .shown .given) .1) (at-row-class .row-class .ensures) in count-told (at-start .args .rows .now) (at-start .args .t) ((at-loop .loop .inv) .good ∙ only .good) ((at-counted .counted .ensures) ∙ sum-end (at-start .args .rows .now) (at-start .args .t) (at-loop .loop .inv) (at-add .add .ensures) only)
+    let summing = at-row-class .before .loop .inv in
+    let only = tells at-row-class (at-shown .shown .given .1) in
+    count-told _ _ (summing .good ∙ only .good) ((c .counted .ensures) ∙ sum-end _ _ summing (at-add .add .ensures) only)
 
-enum-known-shown-2 : tie.Need-enum-known-shown-2 Inv-loop μ-loop
-enum-known-shown-2 c = search needs
+add-requires-2 : At tie.Need-add-requires-2
+add-requires-2 c κs = few (c .before .before .before .before)
 
-add-requires-2 : tie.Need-add-requires-2 Inv-loop μ-loop
-add-requires-2 c κs =
-    let at-loop = c .before .before .before .before in
-    let at-shared-slice-known = at-loop .before in
-    let at-start = at-shared-slice-known .before in
-    sum-few (at-start .args .rows .now) (at-start .args .t) (at-loop .loop .inv) (omega (arith, (at-shared-slice-known .shared-slice-known .given) (length (at-start .args .rows .now))))
-
-loop-less : tie.Need-loop-less Inv-loop μ-loop
+loop-less : At tie.Need-loop-less
 loop-less c =
     let at-shown2 = c .before .before in
-    let at-row-class = at-shown2 .before .before in
-    let at-loop = at-row-class .before in
-    let at-start = at-loop .before .before in
-    let another = subst (Classes true (at-start .args .rows .now) (at-loop .loop .at) (at-start .args .t)) ((at-shown2 .shown2 .given) .1) (at-row-class .row-class .ensures) in omega (arith, another .after, another .inside)
+    let another = tells (at-shown2 .before .before) (at-shown2 .shown2 .given .1) in
+    omega (arith, another .after, another .inside)
 
-loop-again : tie.Need-loop-again Inv-loop μ-loop
+loop-again : At tie.Need-loop-again
 loop-again c =
-    let at-add2 = c in
-    let at-shown2 = at-add2 .before .before in
+    let at-shown2 = c .before .before in
     let at-row-class = at-shown2 .before .before in
-    let at-loop = at-row-class .before in
-    let at-start = at-loop .before .before in
-    sum-on (at-start .args .rows .now) (at-start .args .t) (at-loop .loop .inv) (at-add2 .add2 .ensures) (subst (Classes true (at-start .args .rows .now) (at-loop .loop .at) (at-start .args .t)) ((at-shown2 .shown2 .given) .1) (at-row-class .row-class .ensures))
+    sum-on _ _ (at-row-class .before .loop .inv) (c .add2 .ensures) (tells at-row-class (at-shown2 .shown2 .given .1))
 
 pub count-rows-spec : {M : Type 1} → statement M
 count-rows-spec =
@@ -98,15 +76,15 @@ count-rows-spec =
     Inv-loop
     μ-loop
     loop-holds
-    row-class-requires
-    enum-told
-    no-count-requires
+    (λ c κs. search needs)
+    (λ c. search needs)
+    (λ c κs. tt)
     returns
-    enum-known-shown
+    (λ c. search needs)
     add-requires
-    counted-requires
+    (λ c κs. tt)
     returns-2
-    enum-known-shown-2
+    (λ c. search needs)
     add-requires-2
     loop-less
     loop-again)

@@ -1,6 +1,7 @@
 use Rattle.listing.proofs.Reading.{Counting, count-none, count-one, count-over}
-use Rattle.rows.proofs.Laws.{segmented, end-inside, end-after}
-use Prim.Native.Nat.{_-_}
+use Rattle.rows.specs.Telling.{endOf}
+use Rattle.rows.proofs.Laws.{Segmented, segmented, end-inside, end-after}
+use Prim.Native.Nat.{_-_, _^_, _≤_, _<_}
 use lib.ListN.{length}
 use native.Mathlib.Omega.{arith}
 use Rattle.listing.proofs.lines.count.Statement.{statement}
@@ -12,59 +13,50 @@ Inv-loop answer at₀ seen₀ at seen = Counting answer at seen
 abbrev μ-loop : tie.MeasureT-loop
 μ-loop answer at₀ seen₀ at seen = length answer - at
 
-loop-holds : tie.Need-loop-holds Inv-loop μ-loop
-loop-holds c =
-    let at-start = c .before in
-    count-none (at-start .pre)
+-- a need, or a place, at this invariant and measure
+abbrev At : (tie.InvT-loop → tie.MeasureT-loop → Type 0) → Type 0
+At it = it Inv-loop μ-loop
 
-segment-at-requires : tie.Need-segment-at-requires Inv-loop μ-loop
-segment-at-requires c κs =
-    let at-loop-test = c in
-    let at-loop = at-loop-test .before in
-    let at-start = at-loop .before .before in
-    (segmented (at-start .args .answer .now) (at-loop .loop .at) ((at-loop .loop .inv) .here) (at-loop-test .loop-test .taken)) .segment
+-- a segment stands here
+here : (c : At tie.In-loop) → Segmented (c .before .before .before .args .answer .now) (c .before .loop .at)
+here c = segmented _ _ (c .before .loop .inv .here) (c .loop-test .taken)
 
-add-seen : tie.Need-add-seen Inv-loop μ-loop
-add-seen c =
-    let at-segment-at = c in
-    let at-loop-test = at-segment-at .before in
-    let at-loop = at-loop-test .before in
-    let at-shared-slice-known = at-loop .before in
-    let at-start = at-shared-slice-known .before in
-    omega (arith, ((at-loop .loop .inv) .few), end-inside (segmented (at-start .args .answer .now) (at-loop .loop .at) ((at-loop .loop .inv) .here) (at-loop-test .loop-test .taken)) (at-segment-at .segment-at .ensures), end-after (segmented (at-start .args .answer .now) (at-loop .loop .at) ((at-loop .loop .inv) .here) (at-loop-test .loop-test .taken)) (at-segment-at .segment-at .ensures), (at-shared-slice-known .shared-slice-known .given) (length (at-start .args .answer .now)))
+-- it and its events end behind the place
+after : (c : At tie.After-segment-at) → (c .before .before .loop .at) < endOf (c .segment-at .result)
+after c = end-after (here (c .before)) (c .segment-at .ensures)
 
-end-of-requires : tie.Need-end-of-requires Inv-loop μ-loop
-end-of-requires c κs =
-    let at-segment-at = c in
-    let at-loop-test = at-segment-at .before in
-    let at-loop = at-loop-test .before in
-    let at-shared-slice-known = at-loop .before in
-    let at-start = at-shared-slice-known .before in
-    omega (arith, end-inside (segmented (at-start .args .answer .now) (at-loop .loop .at) ((at-loop .loop .inv) .here) (at-loop-test .loop-test .taken)) (at-segment-at .segment-at .ensures), (at-shared-slice-known .shared-slice-known .given) (length (at-start .args .answer .now)))
+-- and in the answer
+inside : (c : At tie.After-segment-at) → endOf (c .segment-at .result) ≤ length (c .before .before .before .before .args .answer .now)
+inside c = end-inside (here (c .before)) (c .segment-at .ensures)
 
-loop-less : tie.Need-loop-less Inv-loop μ-loop
-loop-less c =
-    let at-end-of = c in
-    let at-segment-at = at-end-of .before in
-    let at-loop-test = at-segment-at .before in
-    let at-loop = at-loop-test .before in
-    let at-start = at-loop .before .before in
-    omega (arith, end-inside (segmented (at-start .args .answer .now) (at-loop .loop .at) ((at-loop .loop .inv) .here) (at-loop-test .loop-test .taken)) (at-segment-at .segment-at .ensures), end-after (segmented (at-start .args .answer .now) (at-loop .loop .at) ((at-loop .loop .inv) .here) (at-loop-test .loop-test .taken)) (at-segment-at .segment-at .ensures), (at-end-of .end-of .ensures))
+-- which is no longer than a place can count
+short : (c : At tie.After-segment-at) → length (c .before .before .before .before .args .answer .now) < 2 ^ 64
+short c =
+    let at-shared-slice-known = c .before .before .before in
+    omega (arith, at-shared-slice-known .shared-slice-known .given (length (at-shared-slice-known .before .args .answer .now)))
 
-loop-again : tie.Need-loop-again Inv-loop μ-loop
+loop-holds : At tie.Need-loop-holds
+loop-holds c = count-none (c .before .pre)
+
+segment-at-requires : At tie.Need-segment-at-requires
+segment-at-requires c κs = here c .segment
+
+add-seen : At tie.Need-add-seen
+add-seen c = omega (arith, c .before .before .loop .inv .few, after c, inside c, short c)
+
+end-of-requires : At tie.Need-end-of-requires
+end-of-requires c κs = omega (arith, inside c, short c)
+
+loop-less : At tie.Need-loop-less
+loop-less c = omega (arith, after (c .before), inside (c .before), c .end-of .ensures)
+
+loop-again : At tie.Need-loop-again
 loop-again c =
-    let at-end-of = c in
-    let at-segment-at = at-end-of .before in
-    let at-loop-test = at-segment-at .before in
-    let at-loop = at-loop-test .before in
-    let at-start = at-loop .before .before in
-    rw (at-end-of .end-of .ensures) (count-one (at-loop .loop .inv) (segmented (at-start .args .answer .now) (at-loop .loop .at) ((at-loop .loop .inv) .here) (at-loop-test .loop-test .taken)) (at-segment-at .segment-at .ensures))
+    let l = c .before .before in
+    rw (c .end-of .ensures) (count-one (l .before .loop .inv) (here l) (c .before .segment-at .ensures))
 
-returns : tie.Need-returns Inv-loop μ-loop
-returns c =
-    let at-loop-test = c in
-    let at-loop = at-loop-test .before in
-    count-over (at-loop .loop .inv) (at-loop-test .loop-test .left)
+returns : At tie.Need-returns
+returns c = count-over (c .before .loop .inv) (c .loop-test .left)
 
 pub count-spec : {M : Type 1} → statement M
 count-spec =

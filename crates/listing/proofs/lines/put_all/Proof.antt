@@ -1,12 +1,13 @@
 use Rattle.listing.proofs.Reading.{list-one, list-over}
 use Rattle.listing.proofs.Writing.{Going, begins, fits-next, goes-on}
 use Rattle.listing.specs.Listing.{allLines}
-use Rattle.rows.proofs.Laws.{InRow, row-in, segmented, end-inside, end-after, row-on}
+use Rattle.rows.proofs.Laws.{InRow, row-in, Segmented, segmented, end-inside, end-after, row-on}
 use Rattle.rows.specs.Telling.{endOf}
 use Rattle.rows.specs.Rows.{segments, segmentsAt}
-use Prim.Native.Nat.{_-_}
+use Prim.Native.Nat.{_-_, _≤_}
 use lib.ListN.{length}
 use native.Mathlib.Omega.{arith}
+use borrow.Author.Needs.{needs}
 use Rattle.listing.proofs.lines.put_all.Statement.{statement}
 use Rattle.listing.proofs.lines.put_all.Tie as tie
 
@@ -16,65 +17,51 @@ Inv-loop answer out₀ at from₀ place₀ out from place = InRow answer from ×
 abbrev μ-loop : tie.MeasureT-loop
 μ-loop answer out₀ at from₀ place₀ out from place = length answer - from
 
-loop-holds : tie.Need-loop-holds Inv-loop μ-loop
-loop-holds c =
-    let at-start = c .before .before in
-    (row-in (at-start .args .answer .now) ((at-start .pre) .0), begins _ (at-start .args .at) _ ((at-start .pre) .1))
+-- a need, or a place, at this invariant and measure
+abbrev At : (tie.InvT-loop → tie.MeasureT-loop → Type 0) → Type 0
+At it = it Inv-loop μ-loop
 
-segment-at-requires : tie.Need-segment-at-requires Inv-loop μ-loop
-segment-at-requires c κs =
-    let at-loop-test = c in
-    let at-loop = at-loop-test .before in
-    let at-start = at-loop .before .before .before in
-    (segmented (at-start .args .answer .now) (at-loop .loop .from) ((at-loop .loop .inv) .0) (at-loop-test .loop-test .taken)) .segment
+-- a segment stands here
+here : (c : At tie.In-loop) → Segmented (c .before .before .before .before .args .answer .now) (c .before .loop .from)
+here c = segmented _ _ (c .before .loop .inv .0) (c .loop-test .taken)
 
-put-segment-requires : tie.Need-put-segment-requires Inv-loop μ-loop
+-- it and its events lie in the answer
+inside : (c : At tie.After-segment-at) → endOf (c .segment-at .result) ≤ length (c .before .before .before .before .before .args .answer .now)
+inside c = end-inside (here (c .before)) (c .segment-at .ensures)
+
+loop-holds : At tie.Need-loop-holds
+loop-holds c = let at-start = c .before .before in (row-in _ (at-start .pre .0), begins _ _ _ (at-start .pre .1))
+
+segment-at-requires : At tie.Need-segment-at-requires
+segment-at-requires c κs = here c .segment
+
+put-segment-requires : At tie.Need-put-segment-requires
 put-segment-requires c κs =
     let at-segment-at = c .before in
-    let at-loop-test = at-segment-at .before in
-    let at-loop = at-loop-test .before in
-    let at-start = at-loop .before .before .before in
-    (end-inside (segmented (at-start .args .answer .now) (at-loop .loop .from) ((at-loop .loop .inv) .0) (at-loop-test .loop-test .taken)) (at-segment-at .segment-at .ensures), fits-next (allLines (segmentsAt (at-start .args .answer .now) (endOf (at-segment-at .segment-at .result)))) (list-one ((at-loop .loop .inv) .1) (segmented (at-start .args .answer .now) (at-loop .loop .from) ((at-loop .loop .inv) .0) (at-loop-test .loop-test .taken)) (at-segment-at .segment-at .ensures)))
+    let l = at-segment-at .before in
+    (inside at-segment-at, fits-next _ (list-one (l .before .loop .inv .1) (here l) (at-segment-at .segment-at .ensures)))
 
-end-of-requires : tie.Need-end-of-requires Inv-loop μ-loop
+end-of-requires : At tie.Need-end-of-requires
 end-of-requires c κs =
     let at-segment-at = c .before .before .before .before in
-    let at-loop-test = at-segment-at .before in
-    let at-loop = at-loop-test .before in
-    let at-shared-slice-known = at-loop .before .before in
-    let at-start = at-shared-slice-known .before in
-    omega (arith, end-inside (segmented (at-start .args .answer .now) (at-loop .loop .from) ((at-loop .loop .inv) .0) (at-loop-test .loop-test .taken)) (at-segment-at .segment-at .ensures), (at-shared-slice-known .shared-slice-known .given) (length (at-start .args .answer .now)))
+    let at-shared-slice-known = at-segment-at .before .before .before .before in
+    omega (arith, inside at-segment-at, at-shared-slice-known .shared-slice-known .given (length (at-shared-slice-known .before .args .answer .now)))
 
-loop-less : tie.Need-loop-less Inv-loop μ-loop
+loop-less : At tie.Need-loop-less
 loop-less c =
-    let at-end-of = c in
-    let at-segment-at = at-end-of .before .before .before .before .before in
-    let at-loop-test = at-segment-at .before in
-    let at-loop = at-loop-test .before in
-    let at-start = at-loop .before .before .before in
-    omega (arith, end-inside (segmented (at-start .args .answer .now) (at-loop .loop .from) ((at-loop .loop .inv) .0) (at-loop-test .loop-test .taken)) (at-segment-at .segment-at .ensures), end-after (segmented (at-start .args .answer .now) (at-loop .loop .from) ((at-loop .loop .inv) .0) (at-loop-test .loop-test .taken)) (at-segment-at .segment-at .ensures), (at-end-of .end-of .ensures))
+    let at-segment-at = c .before .before .before .before .before in
+    omega (arith, inside at-segment-at, end-after (here (at-segment-at .before)) (at-segment-at .segment-at .ensures), c .end-of .ensures)
 
-loop-again : tie.Need-loop-again Inv-loop μ-loop
+loop-again : At tie.Need-loop-again
 loop-again c =
-    let at-end-of = c in
-    let at-put-segment = at-end-of .before .before .before in
+    let at-put-segment = c .before .before .before in
     let at-segment-at = at-put-segment .before .before in
-    let at-loop-test = at-segment-at .before in
-    let at-loop = at-loop-test .before in
-    let at-start = at-loop .before .before .before in
-    rw (at-end-of .end-of .ensures) (row-on (segmented (at-start .args .answer .now) (at-loop .loop .from) ((at-loop .loop .inv) .0) (at-loop-test .loop-test .taken)) (at-segment-at .segment-at .ensures), goes-on (list-one ((at-loop .loop .inv) .1) (segmented (at-start .args .answer .now) (at-loop .loop .from) ((at-loop .loop .inv) .0) (at-loop-test .loop-test .taken)) (at-segment-at .segment-at .ensures)) (at-put-segment .put-segment .ensures))
+    let l = at-segment-at .before in
+    let e = at-segment-at .segment-at .ensures in
+    rw (c .end-of .ensures) (row-on (here l) e, goes-on (list-one (l .before .loop .inv .1) (here l) e) (at-put-segment .put-segment .ensures))
 
-same-length : tie.Need-same-length Inv-loop μ-loop
-same-length c =
-    let at-loop = c .before in
-    (at-loop .loop .inv) .1 .put .kept
-
-returns : tie.Need-returns Inv-loop μ-loop
-returns c =
-    let at-loop-test = c in
-    let at-loop = at-loop-test .before in
-    let at-start = at-loop .before .before .before in
-    list-over (at-start .args .answer .now) (at-loop .loop .from) ((at-loop .loop .inv) .1) (at-loop-test .loop-test .left)
+returns : At tie.Need-returns
+returns c = list-over (c .before .before .before .before .args .answer .now) _ (c .before .loop .inv .1) (c .loop-test .left)
 
 pub put-all-spec : {M : Type 1} → statement M
 put-all-spec =
@@ -88,5 +75,5 @@ put-all-spec =
     end-of-requires
     loop-less
     loop-again
-    same-length
+    (λ c. search needs)
     returns)

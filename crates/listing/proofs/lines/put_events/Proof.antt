@@ -4,79 +4,44 @@ use Rattle.listing.specs.Listing.{eventLines}
 use Rattle.rows.specs.Rows.{eventsFrom}
 use Rattle.wire.specs.Fields.{Inside}
 use native.Mathlib.Omega.{arith}
-use Prim.Native.Nat.{_+_, _-_, _*_}
+use borrow.Author.Needs.{needs}
+use Prim.Native.Nat.{_*_}
 use Rattle.listing.proofs.lines.put_events.Statement.{statement}
 use Rattle.listing.proofs.lines.put_events.Tie as tie
 
 abbrev Inv-loop : tie.InvT-loop
-Inv-loop answer first n out₀ at place₀ from₀ left₀ out place from left = Inside from (35 * left) answer × Going out₀ at (eventLines (eventsFrom answer first n)) (eventLines (eventsFrom answer from left)) out place
+Inv-loop answer first n out₀ at place₀ from₀ left₀ out place from left =
+    Inside from (35 * left) answer × Going out₀ at (eventLines (eventsFrom answer first n)) (eventLines (eventsFrom answer from left)) out place
 
 abbrev μ-loop : tie.MeasureT-loop
 μ-loop answer first n out₀ at place₀ from₀ left₀ out place from left = left
 
-loop-holds : tie.Need-loop-holds Inv-loop μ-loop
-loop-holds c =
-    let at-start = c .before .before in
-    ((at-start .pre) .0, begins _ (at-start .args .at) _ ((at-start .pre) .1))
+-- a need, or a place, at this invariant and measure
+abbrev At : (tie.InvT-loop → tie.MeasureT-loop → Type 0) → Type 0
+At it = it Inv-loop μ-loop
 
-event-at-requires : tie.Need-event-at-requires Inv-loop μ-loop
-event-at-requires c κs =
-    let at-loop-test = c in
-    let at-loop = at-loop-test .before in
-    omega (arith, (at-loop-test .loop-test .taken), (at-loop .loop .inv) .0)
+loop-holds : At tie.Need-loop-holds
+loop-holds c = let at-start = c .before .before in (at-start .pre .0, begins _ _ _ (at-start .pre .1))
 
-put-event-requires : tie.Need-put-event-requires Inv-loop μ-loop
+put-event-requires : At tie.Need-put-event-requires
 put-event-requires c κs =
     let at-event-at = c .before .before in
-    let at-loop-test = at-event-at .before in
-    let at-loop = at-loop-test .before in
-    let at-start = at-loop .before .before .before in
-    let start-answer = at-start .args .answer .now in
-    rw (same-event start-answer (at-loop .loop .from) _ _ (at-event-at .event-at .ensures .0) (at-event-at .event-at .ensures .1)) (fits-next
-    (eventLines (eventsFrom start-answer ((at-loop .loop .from) + 35) ((at-loop .loop .left) - 1)))
-    (event-one start-answer (at-loop .loop .from) (at-loop .loop .left) (at-loop-test .loop-test .taken) (at-loop .loop .inv .1)))
+    let l = at-event-at .before in
+    let read = at-event-at .event-at .ensures in
+    rw (same-event _ _ _ _ (read .0) (read .1)) (fits-next _ (event-one _ _ _ (l .loop-test .taken) (l .before .loop .inv .1)))
 
-add-from : tie.Need-add-from Inv-loop μ-loop
-add-from c =
-    let at-loop-test = c .before .before .before .before .before .before in
-    let at-loop = at-loop-test .before in
-    omega (arith, (at-loop-test .loop-test .taken), (at-loop .loop .inv) .0)
-
-sub-left : tie.Need-sub-left Inv-loop μ-loop
-sub-left c =
-    let at-loop-test = c .before .before .before .before .before .before in
-    omega (arith, (at-loop-test .loop-test .taken))
-
-loop-less : tie.Need-loop-less Inv-loop μ-loop
-loop-less c =
-    let at-loop-test = c .before .before .before .before .before .before in
-    omega (arith, (at-loop-test .loop-test .taken))
-
-loop-again : tie.Need-loop-again Inv-loop μ-loop
+loop-again : At tie.Need-loop-again
 loop-again c =
     let at-put-event = c .before .before in
     let at-event-at = at-put-event .before .before .before in
-    let at-loop-test = at-event-at .before in
-    let at-loop = at-loop-test .before in
-    let at-start = at-loop .before .before .before in (
-      omega (arith, (at-loop-test .loop-test .taken), (at-loop .loop .inv .0)),
-      goes-on
-          (event-one (at-start .args .answer .now) (at-loop .loop .from) (at-loop .loop .left) (at-loop-test .loop-test .taken) (at-loop .loop .inv .1))
-          (event-put (at-start .args .answer .now) (at-loop .loop .from) _ _ (at-event-at .event-at .ensures .0) (at-event-at .event-at .ensures .1)
-          (at-put-event .put-event .ensures)),
+    let l = at-event-at .before in
+    let read = at-event-at .event-at .ensures in (
+      omega (arith, l .loop-test .taken, l .before .loop .inv .0),
+      goes-on (event-one _ _ _ (l .loop-test .taken) (l .before .loop .inv .1)) (event-put _ _ _ _ (read .0) (read .1) (at-put-event .put-event .ensures)),
     )
 
-same-length : tie.Need-same-length Inv-loop μ-loop
-same-length c =
-    let at-loop = c .before in
-    (at-loop .loop .inv) .1 .put .kept
-
-returns : tie.Need-returns Inv-loop μ-loop
-returns c =
-    let at-loop-test = c in
-    let at-loop = at-loop-test .before in
-    let at-start = at-loop .before .before .before in
-    event-none ((at-start .args .answer .now)) (at-loop .loop .from) (at-loop .loop .left) (omega (arith, (at-loop-test .loop-test .left))) ((at-loop .loop .inv) .1)
+returns : At tie.Need-returns
+returns c = event-none _ _ _ (omega (arith, c .loop-test .left)) (c .before .loop .inv .1)
 
 pub put-events-spec : {M : Type 1} → statement M
 put-events-spec =
@@ -85,11 +50,11 @@ put-events-spec =
     Inv-loop
     μ-loop
     loop-holds
-    event-at-requires
+    (λ c κs. search needs)
     put-event-requires
-    add-from
-    sub-left
-    loop-less
+    (λ c. search needs)
+    (λ c. search needs)
+    (λ c. search needs)
     loop-again
-    same-length
+    (λ c. search needs)
     returns)

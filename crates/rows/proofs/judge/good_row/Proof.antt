@@ -1,9 +1,10 @@
-use Rattle.rows.proofs.Steps.{told, Going, segment-going, segment-after, event-going}
+use Rattle.rows.proofs.Steps.{Tells, told, Going, segment-going, segment-after, event-going}
 use Rattle.rows.proofs.Laws.{row-begin}
 use Rattle.rows.specs.Rows.{goodRow}
+use Rattle.rows.specs.declared.Stands.{Stands}
 use Prim.Native.Nat.{_-_}
 use mathlib.Core.Bool.{false}
-use mathlib.Core.Path.{sym, _∙_}
+use mathlib.Core.Path.{_≡_, sym, _∙_}
 use lib.ListN.{length}
 use native.Mathlib.Omega.{arith}
 use borrow.Author.Needs.{needs}
@@ -17,113 +18,69 @@ Inv-loop row at₀ least₀ waiting₀ at least waiting = Going false row (goodR
 abbrev μ-loop : tie.MeasureT-loop
 μ-loop row at₀ least₀ waiting₀ at least waiting = length row - at
 
-loop-holds : tie.Need-loop-holds Inv-loop μ-loop
-loop-holds c =
-    let at-start = c .before in
-    record { same = row-begin (at-start .args .row .now); inside = omega arith }
+-- a need, or a place, at this invariant and measure
+abbrev At : (tie.InvT-loop → tie.MeasureT-loop → Type 0) → Type 0
+At it = it Inv-loop μ-loop
 
-stands-at-requires : tie.Need-stands-at-requires Inv-loop μ-loop
-stands-at-requires c κs =
-    let at-loop = c in
-    (at-loop .loop .inv) .inside
+-- what follows from what stands at the place
+tells : (c : At tie.After-stands-at) {x : Stands} → c .stands-at .result ≡ x
+    → let now = c .before .loop in
+    Tells false (c .before .before .before .args .row .now) (now .at) (now .least) (now .waiting) x
+tells c e = told _ _ _ _ _ (c .before .loop .inv .inside) (sym (c .stands-at .ensures) ∙ e)
 
-enum-told : tie.Need-enum-told Inv-loop μ-loop
-enum-told c = search needs
+loop-holds : At tie.Need-loop-holds
+loop-holds c = record { same = row-begin _; inside = omega arith }
 
-returns : tie.Need-returns Inv-loop μ-loop
+returns : At tie.Need-returns
 returns c =
-    let at-enum-told = c in
-    let at-stands-at = at-enum-told .before .before in
-    let at-loop = at-stands-at .before in
-    let at-start = at-loop .before .before in
-    sym ((at-loop .loop .inv) .same ∙ told false (at-start .args .row .now) (at-loop .loop .at) (at-loop .loop .least) (at-loop .loop .waiting) ((at-loop .loop .inv) .inside) (sym (at-stands-at .stands-at .ensures) ∙ (at-enum-told .enum-told .given) .1))
+    let at-stands-at = c .before .before in
+    sym ((at-stands-at .before .loop .inv .same) ∙ tells at-stands-at (c .enum-told .given .1))
 
-enum-told-2 : tie.Need-enum-told-2 Inv-loop μ-loop
-enum-told-2 c = search needs
-
-returns-2 : tie.Need-returns-2 Inv-loop μ-loop
+returns-2 : At tie.Need-returns-2
 returns-2 c =
-    let at-enum-told2 = c in
-    let at-stands-at = at-enum-told2 .before .before in
-    let at-loop = at-stands-at .before in
-    let at-start = at-loop .before .before in
-    sym ((at-loop .loop .inv) .same ∙ told false (at-start .args .row .now) (at-loop .loop .at) (at-loop .loop .least) (at-loop .loop .waiting) ((at-loop .loop .inv) .inside) (sym (at-stands-at .stands-at .ensures) ∙ (at-enum-told2 .enum-told2 .given) .1) .good)
+    let at-stands-at = c .before .before in
+    sym ((at-stands-at .before .loop .inv .same) ∙ tells at-stands-at (c .enum-told2 .given .1) .good)
 
-enum-told-3 : tie.Need-enum-told-3 Inv-loop μ-loop
-enum-told-3 c = search needs
+returns-3 : At tie.Need-returns-3
+returns-3 c = absurd (untrue (tells (c .before .before) (c .enum-told3 .given .1) .allowed))
 
-returns-3 : tie.Need-returns-3 Inv-loop μ-loop
-returns-3 c =
-    let at-enum-told3 = c in
-    let at-stands-at = at-enum-told3 .before .before in
-    let at-loop = at-stands-at .before in
-    let at-start = at-loop .before .before in
-    absurd (untrue (told false (at-start .args .row .now) (at-loop .loop .at) (at-loop .loop .least) (at-loop .loop .waiting) ((at-loop .loop .inv) .inside) (sym (at-stands-at .stands-at .ensures) ∙ (at-enum-told3 .enum-told3 .given) .1) .allowed))
+segment-at-requires : At tie.Need-segment-at-requires
+segment-at-requires c κs = tells (c .before .before) (c .enum-told4 .given .1) .segment
 
-enum-told-4 : tie.Need-enum-told-4 Inv-loop μ-loop
-enum-told-4 c = search needs
-
-segment-at-requires : tie.Need-segment-at-requires Inv-loop μ-loop
-segment-at-requires c κs =
-    let at-enum-told4 = c in
-    let at-stands-at = at-enum-told4 .before .before in
-    let at-loop = at-stands-at .before in
-    let at-start = at-loop .before .before in
-    told false (at-start .args .row .now) (at-loop .loop .at) (at-loop .loop .least) (at-loop .loop .waiting) ((at-loop .loop .inv) .inside) (sym (at-stands-at .stands-at .ensures) ∙ (at-enum-told4 .enum-told4 .given) .1) .segment
-
-loop-less : tie.Need-loop-less Inv-loop μ-loop
+loop-less : At tie.Need-loop-less
 loop-less c =
     let at-segment-at = c .before in
     let at-enum-told4 = at-segment-at .before in
     let at-stands-at = at-enum-told4 .before .before in
-    let at-loop = at-stands-at .before in
-    let at-start = at-loop .before .before in
-    segment-after (at-loop .loop .inv) (told false (at-start .args .row .now) (at-loop .loop .at) (at-loop .loop .least) (at-loop .loop .waiting) ((at-loop .loop .inv) .inside) (sym (at-stands-at .stands-at .ensures) ∙ (at-enum-told4 .enum-told4 .given) .1)) (at-segment-at .segment-at .ensures)
+    segment-after (at-stands-at .before .loop .inv) (tells at-stands-at (at-enum-told4 .enum-told4 .given .1)) (at-segment-at .segment-at .ensures)
 
-loop-again : tie.Need-loop-again Inv-loop μ-loop
+loop-again : At tie.Need-loop-again
 loop-again c =
     let at-segment-at = c .before in
     let at-enum-told4 = at-segment-at .before in
     let at-stands-at = at-enum-told4 .before .before in
-    let at-loop = at-stands-at .before in
-    let at-start = at-loop .before .before in
-    segment-going (at-loop .loop .inv) (told false (at-start .args .row .now) (at-loop .loop .at) (at-loop .loop .least) (at-loop .loop .waiting) ((at-loop .loop .inv) .inside) (sym (at-stands-at .stands-at .ensures) ∙ (at-enum-told4 .enum-told4 .given) .1)) (at-segment-at .segment-at .ensures)
+    segment-going (at-stands-at .before .loop .inv) (tells at-stands-at (at-enum-told4 .enum-told4 .given .1)) (at-segment-at .segment-at .ensures)
 
-enum-told-5 : tie.Need-enum-told-5 Inv-loop μ-loop
-enum-told-5 c = search needs
-
-add-at : tie.Need-add-at Inv-loop μ-loop
+add-at : At tie.Need-add-at
 add-at c =
-    let at-enum-told5 = c in
-    let at-stands-at = at-enum-told5 .before .before in
-    let at-loop = at-stands-at .before in
-    let at-shared-slice-known = at-loop .before in
-    let at-start = at-shared-slice-known .before in
-    let t = told false (at-start .args .row .now) (at-loop .loop .at) (at-loop .loop .least) (at-loop .loop .waiting) ((at-loop .loop .inv) .inside) (sym (at-stands-at .stands-at .ensures) ∙ (at-enum-told5 .enum-told5 .given) .1) in omega (arith, t .inside, (at-shared-slice-known .shared-slice-known .given) (length (at-start .args .row .now)))
+    let at-stands-at = c .before .before in
+    let at-shared-slice-known = at-stands-at .before .before in
+    omega (
+      arith,
+      tells at-stands-at (c .enum-told5 .given .1) .inside,
+      at-shared-slice-known .shared-slice-known .given (length (at-shared-slice-known .before .args .row .now)),
+    )
 
-sub-waiting : tie.Need-sub-waiting Inv-loop μ-loop
-sub-waiting c =
-    let at-enum-told5 = c in
-    let at-stands-at = at-enum-told5 .before .before in
-    let at-loop = at-stands-at .before in
-    let at-start = at-loop .before .before in
-    let t = told false (at-start .args .row .now) (at-loop .loop .at) (at-loop .loop .least) (at-loop .loop .waiting) ((at-loop .loop .inv) .inside) (sym (at-stands-at .stands-at .ensures) ∙ (at-enum-told5 .enum-told5 .given) .1) in omega (arith, t .some)
+sub-waiting : At tie.Need-sub-waiting
+sub-waiting c = omega (arith, tells (c .before .before) (c .enum-told5 .given .1) .some)
 
-loop-less-2 : tie.Need-loop-less-2 Inv-loop μ-loop
-loop-less-2 c =
-    let at-enum-told5 = c in
-    let at-stands-at = at-enum-told5 .before .before in
-    let at-loop = at-stands-at .before in
-    let at-start = at-loop .before .before in
-    let t = told false (at-start .args .row .now) (at-loop .loop .at) (at-loop .loop .least) (at-loop .loop .waiting) ((at-loop .loop .inv) .inside) (sym (at-stands-at .stands-at .ensures) ∙ (at-enum-told5 .enum-told5 .given) .1) in omega (arith, t .inside)
+loop-less-2 : At tie.Need-loop-less-2
+loop-less-2 c = omega (arith, tells (c .before .before) (c .enum-told5 .given .1) .inside)
 
-loop-again-2 : tie.Need-loop-again-2 Inv-loop μ-loop
+loop-again-2 : At tie.Need-loop-again-2
 loop-again-2 c =
-    let at-enum-told5 = c in
-    let at-stands-at = at-enum-told5 .before .before in
-    let at-loop = at-stands-at .before in
-    let at-start = at-loop .before .before in
-    event-going (at-loop .loop .inv) (told false (at-start .args .row .now) (at-loop .loop .at) (at-loop .loop .least) (at-loop .loop .waiting) ((at-loop .loop .inv) .inside) (sym (at-stands-at .stands-at .ensures) ∙ (at-enum-told5 .enum-told5 .given) .1))
+    let at-stands-at = c .before .before in
+    event-going (at-stands-at .before .loop .inv) (tells at-stands-at (c .enum-told5 .given .1))
 
 pub good-row-spec : {M : Type 1} → statement M
 good-row-spec =
@@ -132,18 +89,18 @@ good-row-spec =
     Inv-loop
     μ-loop
     loop-holds
-    stands-at-requires
-    enum-told
+    (λ c κs. search needs)
+    (λ c. search needs)
     returns
-    enum-told-2
+    (λ c. search needs)
     returns-2
-    enum-told-3
+    (λ c. search needs)
     returns-3
-    enum-told-4
+    (λ c. search needs)
     segment-at-requires
     loop-less
     loop-again
-    enum-told-5
+    (λ c. search needs)
     add-at
     sub-waiting
     loop-less-2

@@ -1,123 +1,85 @@
+use Rattle.records.specs.Layout.{number, kind}
 use Rattle.rows.proofs.Places.{segment-room, phase-room}
 use Rattle.rows.proofs.Judging.{phase-made, gap-made}
-use mathlib.Core.Path.{sym, _∙_}
+use Prim.Native.Nat.{_+_, _^_, _≤_, _<_}
+use mathlib.Core.Path.{_≡_, sym, _∙_}
 use native.Mathlib.Omega.{arith}
 use lib.ListN.{length}
 use Rattle.rows.proofs.reading.segment_at.Statement.{statement}
 use Rattle.rows.proofs.reading.segment_at.Tie as tie
 
+-- the bytes are no more than a place can count
+short : (c : tie.After-shared-slice-known) → length (c .before .args .bytes .now) < 2 ^ 64
+short c = omega (arith, c .shared-slice-known .given (length (c .before .args .bytes .now)))
+
+-- what both kinds have lies in the bytes
+whole : (c : tie.After-shared-slice-known) → (c .before .args .at) + 37 ≤ length (c .before .args .bytes .now)
+whole c = segment-room _ _ (c .before .pre)
+
+-- a phase stands here
+is-phase : (c : tie.Then1) → let args = c .before .before .before .before .before .args in number kind (args .bytes .now) (args .at) ≡ 16
+is-phase c = sym (c .before .get2 .ensures) ∙ (c .if1 .taken)
+
+-- and lies in the bytes
+phase-whole : (c : tie.Then1) → let args = c .before .before .before .before .before .args in (args .at) + 105 ≤ length (args .bytes .now)
+phase-whole c = phase-room _ _ (c .before .before .before .before .before .pre) (is-phase c)
+
 add-signed8 : tie.Need-add-signed8
-add-signed8 c =
-    let at-shared-slice-known = c in
-    let at-start = at-shared-slice-known .before in
-    omega (arith, segment-room (at-start .args .bytes .now) (at-start .args .at) (at-start .pre), (at-shared-slice-known .shared-slice-known .given) (length (at-start .args .bytes .now)))
+add-signed8 c = omega (arith, whole c, short c)
 
 signed8-requires : tie.Need-signed8-requires
-signed8-requires c κs =
-    let at-start = c .before in
-    omega (arith, segment-room (at-start .args .bytes .now) (at-start .args .at) (at-start .pre))
+signed8-requires c κs = omega (arith, whole c)
 
 add-signed8-2 : tie.Need-add-signed8-2
-add-signed8-2 c =
-    let at-shared-slice-known = c .before in
-    let at-start = at-shared-slice-known .before in
-    omega (arith, segment-room (at-start .args .bytes .now) (at-start .args .at) (at-start .pre), (at-shared-slice-known .shared-slice-known .given) (length (at-start .args .bytes .now)))
+add-signed8-2 c = omega (arith, whole (c .before), short (c .before))
 
 signed8-requires-2 : tie.Need-signed8-requires-2
-signed8-requires-2 c κs =
-    let at-start = c .before .before in
-    omega (arith, segment-room (at-start .args .bytes .now) (at-start .args .at) (at-start .pre))
+signed8-requires-2 c κs = omega (arith, whole (c .before))
 
 add-get2 : tie.Need-add-get2
-add-get2 c =
-    let at-shared-slice-known = c .before .before in
-    let at-start = at-shared-slice-known .before in
-    omega (arith, segment-room (at-start .args .bytes .now) (at-start .args .at) (at-start .pre), (at-shared-slice-known .shared-slice-known .given) (length (at-start .args .bytes .now)))
+add-get2 c = omega (arith, whole (c .before .before), short (c .before .before))
 
 get2-requires : tie.Need-get2-requires
-get2-requires c κs =
-    let at-start = c .before .before .before in
-    omega (arith, segment-room (at-start .args .bytes .now) (at-start .args .at) (at-start .pre))
+get2-requires c κs = omega (arith, whole (c .before .before))
 
 add-get1 : tie.Need-add-get1
-add-get1 c =
-    let at-if1 = c in
-    let at-get2 = at-if1 .before in
-    let at-shared-slice-known = at-get2 .before .before .before in
-    let at-start = at-shared-slice-known .before in
-    omega (arith, phase-room (at-start .args .bytes .now) (at-start .args .at) (at-start .pre) (sym (at-get2 .get2 .ensures) ∙ (at-if1 .if1 .taken)), (at-shared-slice-known .shared-slice-known .given) (length (at-start .args .bytes .now)))
+add-get1 c = omega (arith, phase-whole c, short (c .before .before .before .before))
 
 get1-requires : tie.Need-get1-requires
-get1-requires c κs =
-    let at-if1 = c in
-    let at-get2 = at-if1 .before in
-    let at-start = at-get2 .before .before .before .before in
-    omega (arith, phase-room (at-start .args .bytes .now) (at-start .args .at) (at-start .pre) (sym (at-get2 .get2 .ensures) ∙ (at-if1 .if1 .taken)))
+get1-requires c κs = omega (arith, phase-whole c)
 
 add-get2-2 : tie.Need-add-get2-2
-add-get2-2 c =
-    let at-if1 = c .before in
-    let at-get2 = at-if1 .before in
-    let at-shared-slice-known = at-get2 .before .before .before in
-    let at-start = at-shared-slice-known .before in
-    omega (arith, phase-room (at-start .args .bytes .now) (at-start .args .at) (at-start .pre) (sym (at-get2 .get2 .ensures) ∙ (at-if1 .if1 .taken)), (at-shared-slice-known .shared-slice-known .given) (length (at-start .args .bytes .now)))
+add-get2-2 c = omega (arith, phase-whole (c .before), short (c .before .before .before .before .before))
 
 get2-requires-2 : tie.Need-get2-requires-2
-get2-requires-2 c κs =
-    let at-if1 = c .before in
-    let at-get2 = at-if1 .before in
-    let at-start = at-get2 .before .before .before .before in
-    omega (arith, phase-room (at-start .args .bytes .now) (at-start .args .at) (at-start .pre) (sym (at-get2 .get2 .ensures) ∙ (at-if1 .if1 .taken)))
+get2-requires-2 c κs = omega (arith, phase-whole (c .before))
 
 add-get4 : tie.Need-add-get4
-add-get4 c =
-    let at-if1 = c .before .before in
-    let at-get2 = at-if1 .before in
-    let at-shared-slice-known = at-get2 .before .before .before in
-    let at-start = at-shared-slice-known .before in
-    omega (arith, phase-room (at-start .args .bytes .now) (at-start .args .at) (at-start .pre) (sym (at-get2 .get2 .ensures) ∙ (at-if1 .if1 .taken)), (at-shared-slice-known .shared-slice-known .given) (length (at-start .args .bytes .now)))
+add-get4 c = omega (arith, phase-whole (c .before .before), short (c .before .before .before .before .before .before))
 
 get4-requires : tie.Need-get4-requires
-get4-requires c κs =
-    let at-if1 = c .before .before in
-    let at-get2 = at-if1 .before in
-    let at-start = at-get2 .before .before .before .before in
-    omega (arith, phase-room (at-start .args .bytes .now) (at-start .args .at) (at-start .pre) (sym (at-get2 .get2 .ensures) ∙ (at-if1 .if1 .taken)))
+get4-requires c κs = omega (arith, phase-whole (c .before .before))
 
 add-t13 : tie.Need-add-t13
-add-t13 c =
-    let at-if1 = c .before .before .before in
-    let at-get2 = at-if1 .before in
-    let at-shared-slice-known = at-get2 .before .before .before in
-    let at-start = at-shared-slice-known .before in
-    omega (arith, phase-room (at-start .args .bytes .now) (at-start .args .at) (at-start .pre) (sym (at-get2 .get2 .ensures) ∙ (at-if1 .if1 .taken)), (at-shared-slice-known .shared-slice-known .given) (length (at-start .args .bytes .now)))
+add-t13 c = omega (arith, phase-whole (c .before .before .before), short (c .before .before .before .before .before .before .before))
 
 returns : tie.Need-returns
 returns c =
-    let at-get4 = c in
-    let at-get22 = at-get4 .before in
+    let at-get22 = c .before in
     let at-get1 = at-get22 .before in
     let at-if1 = at-get1 .before in
-    let at-get2 = at-if1 .before in
-    let at-signed82 = at-get2 .before in
-    let at-signed8 = at-signed82 .before in
-    let at-start = at-signed8 .before .before in
-    phase-made (at-start .args .bytes .now) (at-start .args .at) _ _ (at-signed8 .signed8 .ensures) (at-signed82 .signed82 .ensures) (sym (at-get2 .get2 .ensures) ∙ (at-if1 .if1 .taken)) _ _ _ (at-get1 .get1 .ensures) (at-get22 .get22 .ensures) (at-get4 .get4 .ensures)
+    let at-signed82 = at-if1 .before .before in
+    phase-made _ _ _ _ (at-signed82 .before .signed8 .ensures) (at-signed82 .signed82 .ensures) (is-phase at-if1)
+    _ _ _ (at-get1 .get1 .ensures) (at-get22 .get22 .ensures) (c .get4 .ensures)
 
 add-t7 : tie.Need-add-t7
-add-t7 c =
-    let at-shared-slice-known = c .before .before .before .before in
-    let at-start = at-shared-slice-known .before in
-    omega (arith, segment-room (at-start .args .bytes .now) (at-start .args .at) (at-start .pre), (at-shared-slice-known .shared-slice-known .given) (length (at-start .args .bytes .now)))
+add-t7 c = let at-shared-slice-known = c .before .before .before .before in omega (arith, whole at-shared-slice-known, short at-shared-slice-known)
 
 returns-2 : tie.Need-returns-2
 returns-2 c =
-    let at-if1 = c in
-    let at-get2 = at-if1 .before in
+    let at-get2 = c .before in
     let at-signed82 = at-get2 .before in
-    let at-signed8 = at-signed82 .before in
-    let at-start = at-signed8 .before .before in
-    gap-made (at-start .args .bytes .now) (at-start .args .at) _ _ (at-signed8 .signed8 .ensures) (at-signed82 .signed82 .ensures) (λ e. (at-if1 .if1 .left) ((at-get2 .get2 .ensures) ∙ e))
+    gap-made _ _ _ _ (at-signed82 .before .signed8 .ensures) (at-signed82 .signed82 .ensures) (λ e. (c .if1 .left) ((at-get2 .get2 .ensures) ∙ e))
 
 pub segment-at-spec : {M : Type 1} → statement M
 segment-at-spec =
