@@ -35,8 +35,7 @@ front-parts p = rw (phase-parts p) (take-at (first p ++ (signed8 (p .end) ++ mid
 -- ---- its front stands
 
 -- as it is written
-pub front-bytes : (p : Forms.Phase)
-    → front p ≡ head 103 16 ++ ((signed8 (p .start) ++ signed8 (p .end)) ++ ((bytes 1 (p .phase) ++ (bytes 1 (p .code) ++ (bytes 2 (p .label) ++ (bytes 2 (p .evidence) ++ bytes 2 (p .derived))))) ++ side (p .from)))
+pub front-bytes : (p : Forms.Phase) → front p ≡ head 103 16 ++ ((signed8 (p .start) ++ signed8 (p .end)) ++ middle p)
 front-bytes p = front-parts p ∙ simp append-assoc
 
 -- where the whole stands, its front does
@@ -93,8 +92,9 @@ amended p {s} {t} {u} {at} a x y =
 pub begun-put : (p : Phase) {s t u : List ℕ} {at q r : ℕ} → Put s at (front (phaseOf p)) 55 t q → Put t at (encode (phase (phaseOf p))) 105 u r → Inside at 105 s
     → Put s at (encode (phase (phaseOf p))) 105 u r
 begun-put p {s} {at = at} a b i =
+    let x = encode (phase (phaseOf p)) in
     record {
-      same = b .same ∙ ap (λ (l : List ℕ). wrote l at (encode (phase (phaseOf p)))) (a .same) ∙ wrote-again s at (front (phaseOf p)) (encode (phase (phaseOf p))) (omega (arith, a .many, b .many)) (omega (arith, b .many));
+      same = b .same ∙ ap (λ (l : List ℕ). wrote l at x) (a .same) ∙ wrote-again s at (front (phaseOf p)) x (omega (arith, a .many, b .many)) (omega (arith, b .many));
       behind = b .behind;
       many = b .many;
       kept = b .kept ∙ a .kept;

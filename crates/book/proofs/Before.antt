@@ -425,7 +425,8 @@ module _ {s : List ℕ} {at : ℕ} {t : Seen} {k n i item least : ℕ} {fell : B
 
 -- ---- a transition: it has no points, and of the tests behind its fields only the last can fail
 
-module _ {s : List ℕ} {at : ℕ} {t : Seen} {k : ℕ} (n : Known s at t k) (i : k ≡ 2) (h2 : headless (earlier n) (r n) ≡ false) (h3 : tooMany base (earlier n) (r n) ≡ false) (h4 : badFields base (r n) ≡ false) where
+module _ {s : List ℕ} {at : ℕ} {t : Seen} {k : ℕ} (n : Known s at t k) (i : k ≡ 2) (h2 : headless (earlier n) (r n) ≡ false)
+    (h3 : tooMany base (earlier n) (r n) ≡ false) (h4 : badFields base (r n) ≡ false) where
   abbrev looking : Looking s at t k 0 0 at 0 false
   looking =
       record { known = n; headed = h2; few = h3; fields = h4; many = few-items s at k (n .frame) (n .kind) (omega arith); looked = looked-none s k at 0 }

@@ -191,14 +191,16 @@ module _ (z : Zone) (r : Rule) (d : ℕ) where
   abbrev pub bodyOf : ℕ → ℕ → Held
   bodyOf n k = record { start = boundaryOf z r (edge k); end = boundaryOf z r (following n k); phase = phaseOf k; rule = r }
 
-  step : (t k ph : ℕ) (e : Edge) (rest : List (Span Held))
-      → after t (between v r (edge k) ph e rest)
-      ≡ cond (past t (boundaryOf z r (edge k)) (boundaryOf z r e)) (some (record { start = boundaryOf z r (edge k); end = boundaryOf z r e; phase = ph; rule = r })) (after t rest)
-  step t k ph e rest = after-keep t (edge k .at) (e .at) (v .body r (edge k) ph e) rest
+  -- the span from the point k to an edge, if past t, or the rest
+  abbrev spanTo : ℕ → ℕ → Edge → Option Held → Option Held
+  spanTo t k e rest =
+      cond (past t (boundaryOf z r (edge k)) (boundaryOf z r e)) (some (record { start = boundaryOf z r (edge k); end = boundaryOf z r e; phase = phaseOf k; rule = r })) rest
+
+  step : (t k : ℕ) (e : Edge) (rest : List (Span Held)) → after t (between v r (edge k) (phaseOf k) e rest) ≡ spanTo t k e (after t rest)
+  step t k e rest = after-keep t (edge k .at) (e .at) (v .body r (edge k) (phaseOf k) e) rest
 
   abbrev result : ℕ → ℕ → Option Held → Option Held
-  result t k rest =
-      cond (past t (boundaryOf z r (edge k)) (boundaryOf z r (following (length (r .points)) k))) (some (bodyOf (length (r .points)) k)) rest
+  result t k rest = spanTo t k (following (length (r .points)) k) rest
 
   -- to the next point
   inner : (t k : ℕ) → suc k < length (r .points)
@@ -209,10 +211,10 @@ module _ (z : Zone) (r : Rule) (d : ℕ) where
       let qs = drop (suc (suc k)) (r .points) in
       let c = drop-cons (r .points) (suc k) midnight h in
       ap (λ (l : List Point). after t (cut v r (edge k) (phaseOf k) l)) c
-      ∙ step t k (phaseOf k) (raised v (edge k .at) (edge k .date) (q .time)) (cut v r (raised v (edge k .at) (edge k .date) (q .time)) (q .phase) qs)
-      ∙ ap (λ (x : ℕ). cond (past t (boundaryOf z r (edge k)) (boundaryOf z r (raised v (edge k .at) x (q .time)))) (some (record { start = boundaryOf z r (edge k); end = boundaryOf z r (raised v (edge k .at) x (q .time)); phase = phaseOf k; rule = r })) (after t (cut v r (raised v (edge k .at) x (q .time)) (q .phase) qs))) (edge-date k)
-      ∙ ap (λ (l : List Point). cond (past t (boundaryOf z r (edge k)) (boundaryOf z r (edge (suc k)))) (some (record { start = boundaryOf z r (edge k); end = boundaryOf z r (edge (suc k)); phase = phaseOf k; rule = r })) (after t (leftBy (suc k) l))) (sym c)
-      ∙ ap (λ (b : Bool). cond (past t (boundaryOf z r (edge k)) (boundaryOf z r (cond b (edge (suc k)) (last k)))) (some (record { start = boundaryOf z r (edge k); end = boundaryOf z r (cond b (edge (suc k)) (last k)); phase = phaseOf k; rule = r })) (after t (left (suc k)))) (sym (lt-ltb (suc k) (length (r .points)) h))
+      ∙ step t k (raised v (edge k .at) (edge k .date) (q .time)) (cut v r (raised v (edge k .at) (edge k .date) (q .time)) (q .phase) qs)
+      ∙ ap (λ (x : ℕ). let e = raised v (edge k .at) x (q .time) in spanTo t k e (after t (cut v r e (q .phase) qs))) (edge-date k)
+      ∙ ap (λ (l : List Point). spanTo t k (edge (suc k)) (after t (leftBy (suc k) l))) (sym c)
+      ∙ ap (λ (b : Bool). spanTo t k (cond b (edge (suc k)) (last k)) (after t (left (suc k)))) (sym (lt-ltb (suc k) (length (r .points)) h))
 
   -- to the next midnight
   outer : (t k : ℕ) → length (r .points) ≤ suc k
@@ -221,10 +223,10 @@ module _ (z : Zone) (r : Rule) (d : ℕ) where
   outer t k h =
       let c = drop-of-length-le (r .points) h in
       ap (λ (l : List Point). after t (cut v r (edge k) (phaseOf k) l)) c
-      ∙ step t k (phaseOf k) (raised v (edge k .at) (suc (edge k .date)) 0) []
-      ∙ ap (λ (x : ℕ). cond (past t (boundaryOf z r (edge k)) (boundaryOf z r (raised v (edge k .at) (suc x) 0))) (some (record { start = boundaryOf z r (edge k); end = boundaryOf z r (raised v (edge k .at) (suc x) 0); phase = phaseOf k; rule = r })) (after t [])) (edge-date k)
-      ∙ ap (λ (l : List Point). cond (past t (boundaryOf z r (edge k)) (boundaryOf z r (last k))) (some (record { start = boundaryOf z r (edge k); end = boundaryOf z r (last k); phase = phaseOf k; rule = r })) (after t (leftBy (suc k) l))) (sym c)
-      ∙ ap (λ (b : Bool). cond (past t (boundaryOf z r (edge k)) (boundaryOf z r (cond b (edge (suc k)) (last k)))) (some (record { start = boundaryOf z r (edge k); end = boundaryOf z r (cond b (edge (suc k)) (last k)); phase = phaseOf k; rule = r })) (after t (left (suc k)))) (sym (le-ltb (suc k) (length (r .points)) h))
+      ∙ step t k (raised v (edge k .at) (suc (edge k .date)) 0) []
+      ∙ ap (λ (x : ℕ). spanTo t k (raised v (edge k .at) (suc x) 0) (after t [])) (edge-date k)
+      ∙ ap (λ (l : List Point). spanTo t k (last k) (after t (leftBy (suc k) l))) (sym c)
+      ∙ ap (λ (b : Bool). spanTo t k (cond b (edge (suc k)) (last k)) (after t (left (suc k)))) (sym (le-ltb (suc k) (length (r .points)) h))
 
   one-left : (t k : ℕ) → k < length (r .points) → after t (left k) ≡ result t k (after t (left (suc k)))
   one-left t k h = ap (λ (l : List Point). after t (leftBy k l)) (drop-cons (r .points) k midnight h) ∙ go (decLt (suc k) (length (r .points)))

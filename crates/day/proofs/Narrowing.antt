@@ -116,7 +116,9 @@ module _ {s rules : List ℕ} {from to : ℕ} {room now : List ℕ} {n i : ℕ} 
 
     one : {t : Bool} → t ≡ meets (ruleAt s here) from to → nearOf s (drop i rules) from to ≡ cond t (here ∷ rest) rest
     unfolding nearOf
-    one t = rw (add-one i) (ap (λ (l : List ℕ). nearOf s l from to) (drop-cons rules i 0 h) ∙ ap (λ (q : Bool). cond q (here ∷ nearOf s (drop (suc i) rules) from to) (nearOf s (drop (suc i) rules) from to)) (sym t))
+    one t =
+        let next = nearOf s (drop (suc i) rules) from to in
+        rw (add-one i) (ap (λ (l : List ℕ). nearOf s l from to) (drop-cons rules i 0 h) ∙ ap (λ (q : Bool). cond q (here ∷ next) next) (sym t))
 
     module _ {t : Bool} (m : t ≡ meets (ruleAt s here) from to) where
       near-here : t ≡ true → nearOf s (drop i rules) from to ≡ here ∷ rest

@@ -57,7 +57,8 @@ forward z from to h e = simp (le-leb from to h, e)
 -- ---- where the clock is steady
 
 module _ (book : List ℕ) (z : Zone) (from to o : ℕ)
-    (shift : (d x : ℕ) (e : Event) → dateAt z from ≤ d → d ≤ dateAt z to → x ≤ dayNs → boundaryAt z d x (published (e .uncertainty)) ≡ record { at = record { 0 = midnightBy o d + x }; uncertainty = published (e .uncertainty) })
+    (shift : (d x : ℕ) (e : Event) → dateAt z from ≤ d → d ≤ dateAt z to → x ≤ dayNs
+    → boundaryAt z d x (published (e .uncertainty)) ≡ record { at = record { 0 = midnightBy o d + x }; uncertainty = published (e .uncertainty) })
   where
     module _ (d : ℕ) (a : dateAt z from ≤ d) (b : d ≤ dateAt z to) where
       one-found : (p x : ℕ) → x < dayNs → occurrence z d (eventAt book p) x ≡ keptAt book (midnightBy o d + x) p
@@ -213,15 +214,16 @@ collects-all book first ats os events v l from to {a} {b} {a′} {b′} {r} {n} 
         let ks = keptBy book events from to (By o) in
         let many : n ≡ length ks = let w = sym all ∙ k .answer in cc in
         let found-by = kept-found book first ats os events v l from to o e in
+        let places-front : n ≤ length b → b′ ≡ places ks ++ drop (length ks) b = λ h. k .places-kept ∙ front (λ (j : Kept). j .place) ks b (omega arith) in
         record {
           count = many ∙ sym (length-map ks (keptAs book)) ∙ ap length found-by;
           same = λ g h.
-              ap₂ (λ (x y : List ℕ). listed (keptOf book x y) 0 n) (k .instants-kept ∙ front (λ (j : Kept). j .at) ks a (omega arith)) (k .places-kept ∙ front (λ (j : Kept). j .place) ks b (omega arith))
+              ap₂ (λ (x y : List ℕ). listed (keptOf book x y) 0 n) (k .instants-kept ∙ front (λ (j : Kept). j .at) ks a (omega arith)) (places-front h)
               ∙ ap (listed (keptOf book (instants ks ++ drop (length ks) a) (places ks ++ drop (length ks) b)) 0) many
               ∙ read-back book ks (drop (length ks) a) (drop (length ks) b)
               ∙ found-by;
           there = λ h i j.
-              subst (λ (y : List ℕ). Listed 4 book (getD y i 0)) (sym (k .places-kept ∙ front (λ (j : Kept). j .place) ks b (omega arith)))
+              subst (λ (y : List ℕ). Listed 4 book (getD y i 0)) (sym (places-front h))
               (there book (places ks) (drop (length ks) b) (each-dates book events o from to (dayBy o from) (suc (dayBy o to - dayBy o from)) (each-listed book events l)) i
               (omega (arith, length-map ks (λ (j : Kept). j .place))));
         }

@@ -119,7 +119,10 @@ module _ (z : Zone) (from to d : ℕ) (book places : List ℕ) where
 
   event-in : (t : Search) (e : Event) (es : List Event) → hasDate e ≡ true → sought t (onDate z from to d (e ∷ es)) ≡ sought (sought t (onTimes z from to d e (e .times))) (onDate z from to d es)
   unfolding onDate
-  event-in t e es h = ap (λ (b : Bool). sought t (cond b (onTimes z from to d e (e .times) ++ onDate z from to d es) (onDate z from to d es))) h ∙ sought-append t (onTimes z from to d e (e .times)) (onDate z from to d es)
+  event-in t e es h =
+      let own = onTimes z from to d e (e .times) in
+      let rest = onDate z from to d es in
+      ap (λ (b : Bool). sought t (cond b (own ++ rest) rest)) h ∙ sought-append t own rest
 
   event-out : (t : Search) (e : Event) (es : List Event) → hasDate e ≡ false → sought t (onDate z from to d (e ∷ es)) ≡ sought t (onDate z from to d es)
   unfolding onDate

@@ -21,7 +21,8 @@ sets-append l i (v ∷ vs) ws =
     let k : suc i + length vs ≡ i + suc (length vs) = omega arith in
     sets-append (set l i v) (suc i) vs ws ∙ ap (λ (j : ℕ). sets (sets (set l i v) (suc i) vs) j ws) k
 
-also-kept : (f : Kept → ℕ) (ks ls : List Kept) (a : List ℕ) (n : ℕ) {a′ a″ : List ℕ} {m : ℕ} → m ≡ n + length ks → a′ ≡ sets a n (map f ks) → a″ ≡ sets a′ m (map f ls) → a″ ≡ sets a n (map f (ks ++ ls))
+also-kept : (f : Kept → ℕ) (ks ls : List Kept) (a : List ℕ) (n : ℕ) {a′ a″ : List ℕ} {m : ℕ} → m ≡ n + length ks → a′ ≡ sets a n (map f ks)
+    → a″ ≡ sets a′ m (map f ls) → a″ ≡ sets a n (map f (ks ++ ls))
 also-kept f ks ls a n {a′} {a″} {m} e p q =
     let k : m ≡ n + length (map f ks) = omega (arith, length-map ks f) in
     q ∙ ap₂ (λ (l : List ℕ) (j : ℕ). sets l j (map f ls)) p k ∙ sym (sets-append a n (map f ks) (map f ls)) ∙ ap (sets a n) (sym (map-append f ks ls))

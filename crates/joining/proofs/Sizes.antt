@@ -93,8 +93,10 @@ and-true false b e = absurd (let y : _≡_ {A = ℕ} 0 1 = cc in omega arith)
 -- a span that joins the one before shows what that showed
 same-last : (s q : Span Shown) → joins phases s q ≡ true → lastAt (joinedSpan phases s q) ≡ lastAt q
 same-last s q e =
-    let m = and-true (eqb (s .body .held .phase) (q .body .held .phase)) (eqb (s .body .held .rule .evidence) (q .body .held .rule .evidence)) (and-true (eqb (s .to) (q .from)) (sameMark (phases .mark (s .body)) (phases .mark (q .body))) e .1) in
-    ap₂ (Shows (record { 0 = q .to })) (eqb-true (s .body .held .phase) (q .body .held .phase) (m .0)) (eqb-true (s .body .held .rule .evidence) (q .body .held .rule .evidence) (m .1))
+    let a = s .body .held in
+    let b = q .body .held in
+    let m = and-true (eqb (a .phase) (b .phase)) (eqb (a .rule .evidence) (b .rule .evidence)) (and-true (eqb (s .to) (q .from)) (sameMark (phases .mark (s .body)) (phases .mark (q .body))) e .1) in
+    ap₂ (Shows (record { 0 = q .to })) (eqb-true (a .phase) (b .phase) (m .0)) (eqb-true (a .rule .evidence) (b .rule .evidence) (m .1))
 
 pub from-more : (s : Span Shown) (qs : List (Span Shown)) → length (bytesOf (joinFrom phases s qs)) ≡ 105 + 35 * many s + more (lastAt s) qs
 unfolding joinFrom more phaseForms encodeAll

@@ -3,7 +3,7 @@ use mathlib.Core.Path.{_≡_, refl, sym, ap, ap₂, _∙_, subst}
 use mathlib.Core.Bool.{Bool, true, false, cond}
 use mathlib.Core.List.{List, [], _∷_, map}
 use mathlib.Core.Option.{Option}
-use Prim.Native.Nat.{ℕ, suc, _+_, _*_, _≤_, _<_}
+use Prim.Native.Nat.{ℕ, _+_, _*_, _≤_, _<_}
 use native.Mathlib.Omega.{arith}
 use lib.Dec.{ltb}
 use lib.ListN.{length, length-map}
@@ -53,7 +53,7 @@ module _ (s : List ℕ) (first : ℕ) (ats offsets rules events : List ℕ) (hi 
   left w = map (showsSpan z es) (rest s z (venueBy z g) hi w)
 
   pub end-at : (q : Piece) → endEdge s q .at ≡ q .end .0
-  end-at q = go (ltb (q .point + 1) (length (ruleOf s q .points))) (record { date = q .date .0; time = pointOf s q (q .point + 1) .time; at = q .end .0 }) (record { date = suc (q .date .0); time = 0; at = q .end .0 }) refl refl
+  end-at q = go (ltb (q .point + 1) (length (ruleOf s q .points))) _ _ refl refl
     where
       go : (b : Bool) (x y : Edge) → x .at ≡ q .end .0 → y .at ≡ q .end .0 → cond {A = Edge} b x y .at ≡ q .end .0
       go true x y e i = e

@@ -26,14 +26,17 @@ widest-same (ProcessStart t) = refl
 widest-same (AmbiguousLocalTime d) = refl
 widest-same (NonexistentLocalTime d) = refl
 
+-- a piece's span, both boundaries as much in doubt
+abbrev alike : List ℕ → Piece → Uncertainty → ℕ → Held
+alike s q u p = record { start = record { at = q .start; uncertainty = u }; end = record { at = q .end; uncertainty = u }; phase = p; rule = ruleOf s q }
+
 module _ (s : List ℕ) (z : Zone) (q : Piece) (n : ℕ) {head : Phase} where
   -- all three uncertainties are the rule's
   pub calm-head : Fits s z q → q .calm ≡ true → (u : Uncertainty) (p : ℕ) → u ≡ published (ruleOf s q .uncertainty) → p ≡ pointOf s q (q .point) .phase
-      → head ≡ headOf (q .from .0) (q .to .0) (record { start = record { at = q .start; uncertainty = u }; end = record { at = q .end; uncertainty = u }; phase = p; rule = ruleOf s q }) u n
-      → head ≡ pieceHead s z q n
+      → head ≡ headOf (q .from .0) (q .to .0) (alike s q u p) u n → head ≡ pieceHead s z q n
   calm-head f c u p e g h =
       h
-      ∙ ap₂ (λ (v : Uncertainty) (x : ℕ). headOf (q .from .0) (q .to .0) (record { start = record { at = q .start; uncertainty = v }; end = record { at = q .end; uncertainty = v }; phase = x; rule = ruleOf s q }) v n) e g
+      ∙ ap₂ (λ (v : Uncertainty) (x : ℕ). headOf (q .from .0) (q .to .0) (alike s q v x) v n) e g
       ∙ ap (λ (v : Uncertainty). headOf (q .from .0) (q .to .0) (calmIn s q) v n) (sym (widest-same (published (ruleOf s q .uncertainty))))
       ∙ ap (λ (x : Held). headOf (q .from .0) (q .to .0) x (wholeOf x) n) (sym (f .calm c))
 

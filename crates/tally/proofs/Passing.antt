@@ -138,7 +138,8 @@ module _ (s : List ℕ) (first : ℕ) (ats offsets rules : List ℕ) (hi : ℕ) 
   pub pieces-begun : {lo : ℕ} {w : Walk} {a : List ℕ} → Begun s z (venueBy z g) 3659 lo w a → pieces w ≡ map heldMark (walk (venueBy z g) hi turns lo)
   pieces-begun b = ap (map heldMark) (b .all hi)
 
-  pub walk-standing : {lo : ℕ} {w : Walk} {a : List ℕ} → Begun s z (venueBy z g) 3659 lo w a → (last : List (Span Mark)) {start end : ℕ} {all : List (Span Mark)} {room now : List ℕ} {p : Page} {row whole : List ℕ}
+  pub walk-standing : {lo : ℕ} {w : Walk} {a : List ℕ} → Begun s z (venueBy z g) 3659 lo w a
+      → (last : List (Span Mark)) {start end : ℕ} {all : List (Span Mark)} {room now : List ℕ} {p : Page} {row whole : List ℕ}
       → Standing all (walked s first ats offsets rules lo hi ++ last) start end room now p row whole → Standing all (pieces w ++ last) start end room now p row whole
   walk-standing b last {start} {end} {all} {room} {now} {p} {row} {whole} x =
       subst (λ (l : List (Span Mark)). Standing all (l ++ last) start end room now p row whole) (sym (pieces-begun b)) x
@@ -170,7 +171,9 @@ module _ (s : List ℕ) (first : ℕ) (ats offsets rules : List ℕ) (hi : ℕ) 
           → Walked start end w now p row whole w2 now2 p2 row2 whole2
       walked-next {now2} {p2} {row2} {whole2} k {w2} i =
           record {
-            on = λ all last room x. subst (λ (y : Walk). Standing all (pieces y ++ last) start end room now2 p2 row2 whole2) (sym i) (k .on all (pieces (behind q) ++ last) room (markOf q) is (piece-standing all last room x));
+            on = λ all last room x.
+                subst (λ (y : Walk). Standing all (pieces y ++ last) start end room now2 p2 row2 whole2) (sym i)
+                (k .on all (pieces (behind q) ++ last) room (markOf q) is (piece-standing all last room x));
             kept = k .kept ∙ r .kept;
           }
 

@@ -104,16 +104,20 @@ held-in s z q h e f =
     k : ℕ
     k = q .point
 
+    -- where the span ends, by whether a point follows
+    ending : Bool → Edge
+    ending b = cond b (record { date = d; time = pointAt z r d (k + 1) .time; at = q .end .0 }) (record { date = suc d; time = 0; at = q .end .0 })
+
     ends : Dec (k + 1 < length (r .points)) → edgeAt z r d (suc k) ≡ endEdge s q
     ends (yes l) =
         edge-is z r d (suc k) (omega arith)
         ∙ ap₂ (λ (i j : ℕ). record { date = d; time = pointAt z r d i .time; at = j }) (sym (add-one k)) (sym f)
-        ∙ sym (ap (λ (b : Bool). cond b (record { date = d; time = pointAt z r d (k + 1) .time; at = q .end .0 }) (record { date = suc d; time = 0; at = q .end .0 })) (lt-ltb (k + 1) (length (r .points)) l))
+        ∙ sym (ap ending (lt-ltb (k + 1) (length (r .points)) l))
     ends (no l) =
         let m : suc k ≡ length (r .points) = omega arith in
         ap (edgeAt z r d) m ∙ edge-end z r d (omega arith)
         ∙ ap (λ (i : ℕ). record { date = suc d; time = 0; at = i }) (ap (instantAt z r d) (sym m) ∙ sym f)
-        ∙ sym (ap (λ (b : Bool). cond b (record { date = d; time = pointAt z r d (k + 1) .time; at = q .end .0 }) (record { date = suc d; time = 0; at = q .end .0 })) (le-ltb (k + 1) (length (r .points)) (omega arith)))
+        ∙ sym (ap ending (le-ltb (k + 1) (length (r .points)) (omega arith)))
 
 -- ---- a walk on a date with a rule
 
@@ -217,11 +221,12 @@ module _ (first : ℕ) (ats os : List ℕ) (good : Valid first ats os) (s : List
       comes =
           let g = stands .forward in
           let ready = apart in
+          let near = short first ats os good r d (omega arith) k (omega arith) in
           record {
             first =
                 ap (restWith v hi w) here-is
                 ∙ rest-first v hi w (shownPart s z piece) (clip to hi (left z r d (k + 1))) (By p) (k + 1) (w .calm) (omega arith);
-            fits = record { listed = kept-by .0; point = omega arith; shows = apart; short = omega (arith, start-is, end-is, short first ats os good r d (omega arith) k (omega arith)); calm = λ i. calm-span s z piece (omega arith) (kept-by .3 i) };
+            fits = record { listed = kept-by .0; point = omega arith; shows = apart; short = omega (arith, start-is, end-is, near); calm = λ i. calm-span s z piece (omega arith) (kept-by .3 i) };
             stands = record { kept = (kept-by .0, omega arith, kept-by .2, kept-by .3); forward = omega arith };
             turns = refl;
           }
@@ -300,10 +305,9 @@ module _ (s : List ℕ) (z : Zone) (g : ℕ → Option Rule) (t : ℕ) (c : Inst
   abbrev start : Walk
   start = record { turns = t; began = c; cursor = c; date = d; governed = o; next = 0; calm = calm }
 
-  -- the rest, of a date and its spans
+  -- the rest, of where a date ends and its spans
   abbrev by : ℕ → ℕ → List (Span Held) → List (Span Held)
-  by hi e here =
-      here ++ (let next = reach (min hi (midnight (venueBy z g) (suc e))) here in cond (ltb (c .0) next) (walk (venueBy z g) hi t next) [])
+  by hi end here = here ++ (let next = reach end here in cond (ltb (c .0) next) (walk (venueBy z g) hi t next) [])
 
   pub begun : Begun s z (venueBy z g) t (c .0) start a
   unfolding rest
@@ -313,8 +317,9 @@ module _ (s : List ℕ) (z : Zone) (g : ℕ → Option Rule) (t : ℕ) (c : Inst
         stands = record { kept = kept; forward = omega arith };
         all = λ hi.
             ap (restWith (venueBy z g) hi start) (ap (clip (c .0) hi) all-spans)
-            ∙ ap (λ (b : Bool). let here = clip (c .0) hi (spans (venueBy z g) (d .0)) in here ++ (let next = reach (cond b (c .0) (min hi (midnight (venueBy z g) (suc (d .0))))) here in cond (ltb (c .0) next) (walk (venueBy z g) hi t next) [])) (le-ltb (c .0) (c .0) (omega arith))
-            ∙ ap (λ (e : ℕ). by hi e (clip (c .0) hi (spans (venueBy z g) e))) date
+            ∙ ap (λ (b : Bool). by hi (cond b (c .0) (min hi (midnight (venueBy z g) (suc (d .0))))) (clip (c .0) hi (spans (venueBy z g) (d .0))))
+            (le-ltb (c .0) (c .0) (omega arith))
+            ∙ ap (λ (e : ℕ). by hi (min hi (midnight (venueBy z g) (suc e))) (clip (c .0) hi (spans (venueBy z g) e))) date
             ∙ sym (turn-any (venueBy z g) hi t (c .0));
       }
 

@@ -10,23 +10,18 @@ use Rattle.tell.proofs.put_events.Tie as tie
 
 returns : tie.Need-returns
 returns c =
-    let at-start = c .before .before .before .before .before .before in
-    let args = at-start .args in
-    put-none (args .out .now) (args .at) (none-found (zoneOf (args .first) (args .ats .now) (args .offsets .now)) (args .book .now)
-    (args .events .now) (args .from .0) (args .to .0) (omega (arith, c .if1 .taken)))
+    let args = c .before .before .before .before .before .before .args in
+    put-none _ _ (none-found (zoneOf (args .first) (args .ats .now) (args .offsets .now)) (args .book .now) (args .events .now) (args .from .0) (args .to .0)
+    (omega (arith, c .if1 .taken)))
 
 put-kept-requires : tie.Need-put-kept-requires
 put-kept-requires c κs =
     let at-if2 = c .before .before .before in
     let at-n = at-if2 .before .before in
     let at-collect = at-n .before .before .before .before in
-    let at-start = at-collect .before .before .before .before .before .before .before .before .before in
-    let held = collects-all ((at-start .args .book) .now) (at-start .args .first) ((at-start .args .ats) .now) ((at-start .args .offsets) .now) ((at-start .args .events) .now) (at-start .pre .0) (at-start .pre .1) (at-start .args .from .0) (at-start .args .to .0) (at-collect .collect .ensures) (at-n .n .given .1) in (
-      search needs,
-      search needs,
-      held .there (at-if2 .if2 .left),
-      omega (arith, at-start .pre .3, held .count),
-    )
+    let pre = at-collect .before .before .before .before .before .before .before .before .before .pre in
+    let held = collects-all _ _ _ _ _ (pre .0) (pre .1) _ _ (at-collect .collect .ensures) (at-n .n .given .1) in
+    (search needs, search needs, held .there (at-if2 .if2 .left), omega (arith, pre .3, held .count))
 
 returns-4 : tie.Need-returns-4
 returns-4 c =
@@ -34,10 +29,8 @@ returns-4 c =
     let at-if2 = at-put-kept .before .before .before .before in
     let at-n = at-if2 .before .before in
     let at-collect = at-n .before .before .before .before in
-    let at-start = at-collect .before .before .before .before .before .before .before .before .before in
-    let args = at-start .args in
-    let held = collects-all (args .book .now) (args .first) (args .ats .now) (args .offsets .now) (args .events .now) (at-start .pre .0)
-    (at-start .pre .1) (args .from .0) (args .to .0) (at-collect .collect .ensures) (at-n .n .given .1) in
+    let pre = at-collect .before .before .before .before .before .before .before .before .before .pre in
+    let held = collects-all _ _ _ _ _ (pre .0) (pre .1) _ _ (at-collect .collect .ensures) (at-n .n .given .1) in
     held-put held (at-if2 .if2 .left) (at-if2 .if2 .left) (at-put-kept .put-kept .ensures)
 
 pub put-events-spec : {M : Type 1} → statement M

@@ -22,118 +22,98 @@ Inv-pieces book first ats offsets rules events hi out₀ at kept₀ edges₀ w�
     (left book first ats offsets rules events (hi .0) w) × Keeps book rules kept
 
 abbrev μ-pieces : tie.MeasureT-pieces
-μ-pieces book first ats offsets rules events hi out₀ at kept₀ edges₀ w₀ head₀ begun₀ stand₀ place₀ out kept edges w head begun stand place = length (left book first ats offsets rules events (hi .0) w) + w .turns
+μ-pieces book first ats offsets rules events hi out₀ at kept₀ edges₀ w₀ head₀ begun₀ stand₀ place₀ out kept edges w head begun stand place =
+    length (left book first ats offsets rules events (hi .0) w) + w .turns
 
 -- a need, or a place, at this invariant and measure
 abbrev At : (tie.InvT-pieces → tie.MeasureT-pieces → Type 0) → Type 0
 At it = it Inv-pieces μ-pieces
 
+-- the entry, from a turn of the loop, and the piece at hand, from where it is told whether it joins
+abbrev entry : At tie.At-pieces → At tie.Start
+entry c = c .before .before .before .before .before .before .before .before .before .before .before
+
+abbrev piece : At tie.After-joins → At tie.After-q
+piece c = c .before .before .before .before .before .before .before .before .before .before
+
 -- a piece comes
 comes-at : (c : At tie.After-q)
     → let at-pieces = c .before .before .before .before in
-    let args = at-pieces .before .before .before .before .before .before .before .before .before .before .before .args in
+    let args = entry at-pieces .args in
     Coming (args .book .now) (args .first) (args .ats .now) (args .offsets .now) (args .rules .now) (args .events .now) (args .hi .0)
     (at-pieces .pieces .w) (c .q .given .0 .0) (at-pieces .pieces .edges)
 comes-at c =
     let at-pieces = c .before .before .before .before in
-    let at-start = at-pieces .before .before .before .before .before .before .before .before .before .before .before in
-    let args = at-start .args in
-    come (args .book .now) (args .first) (args .ats .now) (args .offsets .now) (args .rules .now) (args .events .now) (args .hi .0)
-    (at-start .pre .0) _ _ _ (at-pieces .pieces .inv .0) (c .before .before .here .ensures) (c .q .given .1)
+    come _ _ _ _ _ _ _ (entry at-pieces .pre .0) _ _ _ (at-pieces .pieces .inv .0) (c .before .before .here .ensures) (c .q .given .1)
 
 -- and whether it joins is told
 taken-at : (c : At tie.After-joins)
-    → let at-q = c .before .before .before .before .before .before .before .before .before .before in
-    let at-pieces = at-q .before .before .before .before in
-    let args = at-pieces .before .before .before .before .before .before .before .before .before .before .before .args in
+    → let at-pieces = piece c .before .before .before .before in
+    let args = entry at-pieces .args in
+    let now = at-pieces .pieces in
     Taken (args .book .now) (args .first) (args .ats .now) (args .offsets .now) (args .rules .now) (args .events .now) (args .hi .0) (args .out .now)
     (args .at) (bytesLeft (args .book .now) (args .first) (args .ats .now) (args .offsets .now) (args .rules .now) (args .events .now) (args .hi .0)
-    (at-pieces .before .before .begin .result)) (at-pieces .pieces .out) (at-pieces .pieces .stand) (at-pieces .pieces .head)
-    (at-pieces .pieces .place) (at-q .q .given .0 .0) (c .joins .result)
+    (at-pieces .before .before .begin .result)) (now .out) (now .stand) (now .head) (now .place) (piece c .q .given .0 .0) (c .joins .result)
 taken-at c =
     let at-last-of = c .before .before .before in
-    let at-q = at-last-of .before .before .before .before .before .before .before in
-    let at-pieces = at-q .before .before .before .before in
-    let at-start = at-pieces .before .before .before .before .before .before .before .before .before .before .before in
-    let args = at-start .args in
-    taken (args .book .now) (args .first) (args .ats .now) (args .offsets .now) (args .rules .now) (args .events .now) (args .hi .0)
-    (at-start .pre .0) (comes-at at-q) (c .before .before .point-phase .ensures .0) (c .before .rule-evidence .ensures) (at-pieces .pieces .inv .1)
+    let at-pieces = piece c .before .before .before .before in
+    taken _ _ _ _ _ _ _ (entry at-pieces .pre .0) (comes-at (piece c)) (c .before .before .point-phase .ensures .0) (c .before .rule-evidence .ensures) (at-pieces .pieces .inv .1)
     (at-last-of .last-of .ensures) (c .joins .ensures)
 
 begin-requires : At tie.Need-begin-requires
 begin-requires c κs =
-    let at-start = c .before .before .before .before .before .before .before .before in
-    (at-start .pre .0 .zone, at-start .pre .0 .rules-listed, keeps-blank _)
+    let ready = c .before .before .before .before .before .before .before .before .pre .0 in
+    (ready .zone, ready .rules-listed, keeps-blank _)
 
 pieces-holds : At tie.Need-pieces-holds
 pieces-holds c =
     let at-begin = c .before in
     let at-start = at-begin .before .before .before .before .before .before .before .before .before in
-    let args = at-start .args in (
-      at-begin .begin .ensures .0 .stands,
-      begun-writing (args .book .now) (args .first) (args .ats .now) (args .offsets .now) (args .rules .now) (args .events .now) (args .hi .0)
-          (at-start .pre .0) (at-begin .begin .ensures .0) _ (at-start .pre .1),
-      at-begin .begin .ensures .1,
-    )
+    let begun = at-begin .begin .ensures in
+    (begun .0 .stands, begun-writing _ _ _ _ _ _ _ (at-start .pre .0) (begun .0) _ (at-start .pre .1), begun .1)
 
 here-requires : At tie.Need-here-requires
-here-requires c κs =
-    let at-pieces = c .before in
-    stands-held (at-pieces .pieces .inv .0)
+here-requires c κs = stands-held (c .before .pieces .inv .0)
 
 point-phase-requires : At tie.Need-point-phase-requires
 point-phase-requires c κs =
-    let at-q = c .before .before .before .before .before .before .before in
-    let fits = comes-at at-q .fits in (fits .listed, fits .point)
+    let fits = comes-at (c .before .before .before .before .before .before .before) .fits in
+    (fits .listed, fits .point)
 
 rule-evidence-requires : At tie.Need-rule-evidence-requires
-rule-evidence-requires c κs =
-    let at-q = c .before .before .before .before .before .before .before .before in
-    comes-at at-q .fits .listed
+rule-evidence-requires c κs = comes-at (c .before .before .before .before .before .before .before .before) .fits .listed
 
 events-place-requires : At tie.Need-events-place-requires
-events-place-requires c κs =
-    let at-joins = c in
-    let at-start = at-joins .before .before .before .before .before .before .before .before .before .before .before .before .before .before .before .before .before .before .before .before .before .before .before .before .before in
-    omega (arith, taken-at at-joins .goes .begin, at-start .good)
+events-place-requires c κs = omega (arith, taken-at c .goes .begin, entry (piece c .before .before .before .before) .good)
 
 put-events-requires : At tie.Need-put-events-requires
 put-events-requires c κs =
     let at-events-place = c .before in
     let at-joins = at-events-place .before in
-    let ready = at-joins .before .before .before .before .before .before .before .before .before .before .before .before .before .before .before .before .before .before .before .before .before .before .before .before .before .pre .0 in
+    let ready = entry (piece at-joins .before .before .before .before) .pre .0 in
     (ready .zone, ready .events-listed, ready .few, its-room (taken-at at-joins) (at-events-place .events-place .ensures))
 
 sub-count : At tie.Need-sub-count
-sub-count c =
-    let at-put-events = c .before .before in
-    omega (arith, at-put-events .put-events .ensures .behind)
+sub-count c = omega (arith, c .before .before .put-events .ensures .behind)
 
 cast-head-of : At tie.Need-cast-head-of
 cast-head-of c =
     let at-put-events = c .before .before in
-    let at-q = at-put-events .before .before .before .before .before .before .before .before .before .before .before .before .before in
-    let at-start = at-q .before .before .before .before .before .before .before .before .before .before .before .before .before .before .before in
-    let args = at-start .args in
-    omega (
-      arith,
-      its-length (at-put-events .put-events .ensures),
-      found-few (args .book .now) (args .first) (args .ats .now) (args .offsets .now)
-          (args .rules .now) (args .events .now) (args .hi .0) (at-start .pre .0) _ (comes-at at-q .fits),
-    )
+    let at-q = piece (at-put-events .before .before .before) in
+    let at-start = entry (at-q .before .before .before .before) in
+    omega (arith, its-length (at-put-events .put-events .ensures), found-few _ _ _ _ _ _ (at-start .args .hi .0) (at-start .pre .0) _ (comes-at at-q .fits))
 
 head-of-requires : At tie.Need-head-of-requires
 head-of-requires c κs =
-    let at-q = c .before .before .before .before .before .before .before .before .before .before .before .before .before .before .before in
-    let at-start = at-q .before .before .before .before .before .before .before .before .before .before .before .before .before .before .before in
-    (at-start .pre .0 .zone, comes-at at-q .fits)
+    let at-q = piece (c .before .before .before .before .before) in
+    (entry (at-q .before .before .before .before) .pre .0 .zone, comes-at at-q .fits)
 
 told-requires : At tie.Need-told-requires
 told-requires c κs =
     let at-head-of = c .before in
     let at-put-events = at-head-of .before .before .before in
-    let at-joins = at-put-events .before .before .before in
-    its-count (taken-at at-joins) (ap (λ (h : Phase). h .events) (at-head-of .head-of .ensures) ∙ its-length (at-put-events .put-events .ensures))
+    its-count (taken-at (at-put-events .before .before .before))
+    (ap (λ (h : Phase). h .events) (at-head-of .head-of .ensures) ∙ its-length (at-put-events .put-events .ensures))
 
 put-record-requires : At tie.Need-put-record-requires
 put-record-requires c κs =
@@ -142,48 +122,39 @@ put-record-requires c κs =
     let at-head-of = at-record-place .before in
     let at-put-events = at-head-of .before .before .before in
     let at-events-place = at-put-events .before .before in
-    let at-joins = at-events-place .before in
-    its-record (taken-at at-joins) (at-events-place .events-place .ensures) (at-put-events .put-events .ensures) (at-head-of .head-of .ensures)
-    (at-record-place .record-place .ensures) (at-told .told .ensures)
+    its-record (taken-at (at-events-place .before)) (at-events-place .events-place .ensures) (at-put-events .put-events .ensures)
+    (at-head-of .head-of .ensures) (at-record-place .record-place .ensures) (at-told .told .ensures)
 
 behind-requires : At tie.Need-behind-requires
 behind-requires c κs =
-    let at-q = c .before .before .before .before .before .before .before .before .before .before .before .before .before .before .before .before .before .before .before .before .before .before in
-    let at-start = at-q .before .before .before .before .before .before .before .before .before .before .before .before .before .before .before in
-    let args = at-start .args in
-    let fits = comes-at at-q .fits in omega (arith, fits .point, good-rule (args .book .now) _ (fits .listed) .few)
+    let fits = comes-at (piece (c .before .before .before .before .before .before .before .before .before .before .before .before)) .fits in
+    omega (arith, fits .point, good-rule _ _ (fits .listed) .few)
 
 pieces-less : At tie.Need-pieces-less
 pieces-less c =
-    let at-behind = c in
-    let at-rule-evidence = at-behind .before .before .before .before .before .before .before .before .before .before .before .before .before .before in
-    let at-point-phase = at-rule-evidence .before in
-    let at-q = at-point-phase .before .before .before .before .before .before .before .before in
-    let at-start = at-q .before .before .before .before .before .before .before .before .before .before .before .before .before .before .before in
+    let at-joins = c .before .before .before .before .before .before .before .before .before .before .before .before .before in
+    let at-q = piece at-joins in
+    let at-start = entry (at-q .before .before .before .before) in
     let args = at-start .args in
     fewer-on (args .book .now) (args .first) (args .ats .now) (args .offsets .now) (args .rules .now) (args .events .now) (args .hi .0)
-    (at-behind .behind .ensures) (fewer (args .book .now) (args .first) (args .ats .now) (args .offsets .now) (args .rules .now) (args .events .now)
-    (args .hi .0) (at-start .pre .0) (comes-at at-q) (at-point-phase .point-phase .ensures .0) (at-rule-evidence .rule-evidence .ensures))
+    (c .behind .ensures) (fewer _ _ _ _ _ _ _ (at-start .pre .0) (comes-at at-q) (at-joins .before .before .point-phase .ensures .0) (at-joins .before .rule-evidence .ensures))
 
 pieces-again : At tie.Need-pieces-again
 pieces-again c =
-    let at-behind = c in
-    let at-put-record = at-behind .before .before .before in
+    let at-put-record = c .before .before .before in
     let at-told = at-put-record .before .before in
     let at-record-place = at-told .before in
     let at-head-of = at-record-place .before in
     let at-put-events = at-head-of .before .before .before in
     let at-events-place = at-put-events .before .before in
     let at-joins = at-events-place .before in
-    let at-q = at-joins .before .before .before .before .before .before .before .before .before .before in
-    let at-pieces = at-q .before .before .before .before in
-    let at-start = at-pieces .before .before .before .before .before .before .before .before .before .before .before in
-    let args = at-start .args in (
+    let at-pieces = piece at-joins .before .before .before .before in
+    let args = entry at-pieces .args in (
       stands-on (args .book .now) (args .first) (args .ats .now) (args .offsets .now) (args .rules .now) (args .events .now) (args .hi .0)
-          (at-behind .behind .ensures) (comes-at at-q .stands),
+          (c .behind .ensures) (comes-at (piece at-joins) .stands),
       written-on (args .book .now) (args .first) (args .ats .now) (args .offsets .now) (args .rules .now) (args .events .now) (args .hi .0)
           (written (taken-at at-joins) (at-events-place .events-place .ensures) (at-put-events .put-events .ensures) (at-head-of .head-of .ensures)
-          (at-record-place .record-place .ensures) (at-told .told .ensures) (at-put-record .put-record .ensures)) (at-behind .behind .ensures),
+          (at-record-place .record-place .ensures) (at-told .told .ensures) (at-put-record .put-record .ensures)) (c .behind .ensures),
       at-pieces .pieces .inv .2,
     )
 
@@ -192,21 +163,18 @@ turn-on-requires c κs =
     let at-enum-told = c .before .before in
     let at-here = at-enum-told .before .before in
     let at-pieces = at-here .before .before in
-    let at-start = at-pieces .before .before .before .before .before .before .before .before .before .before .before in
-    let args = at-start .args in (
-      at-start .pre .0 .zone,
-      at-start .pre .0 .rules-listed,
+    let ready = entry at-pieces .pre .0 in (
+      ready .zone,
+      ready .rules-listed,
       at-pieces .pieces .inv .2,
-      shown (args .book .now) (args .first) (args .ats .now) (args .offsets .now) (args .rules .now) (args .events .now) (args .hi .0)
-          (at-start .pre .0) _ _ _ (at-pieces .pieces .inv .0) (at-here .here .ensures) (at-enum-told .enum-told .given .1),
+      shown _ _ _ _ _ _ _ ready _ _ _ (at-pieces .pieces .inv .0) (at-here .here .ensures) (at-enum-told .enum-told .given .1),
     )
 
 pieces-less-2 : At tie.Need-pieces-less-2
 pieces-less-2 c =
     let at-next = c .before in
     let at-turn-on = at-next .before .before in
-    let at-start = at-turn-on .before .before .before .before .before .before .before .before .before .before .before .before .before .before .before .before .before .before in
-    let args = at-start .args in
+    let args = entry (at-turn-on .before .before .before .before .before .before .before) .args in
     turn-fewer (args .book .now) (args .first) (args .ats .now) (args .offsets .now) (args .rules .now) (args .events .now) (args .hi .0)
     (turned (args .book .now) (args .first) (args .ats .now) (args .offsets .now) (args .rules .now) (args .events .now) (args .hi .0) _ _ _
     (at-turn-on .turn-on .ensures .0) (at-next .next .given .1))
@@ -216,9 +184,9 @@ pieces-again-2 c =
     let at-next = c .before in
     let at-turn-on = at-next .before .before in
     let at-pieces = at-turn-on .before .before .before .before .before .before .before in
-    let at-start = at-pieces .before .before .before .before .before .before .before .before .before .before .before in
-    let args = at-start .args in
-    let on = turned (args .book .now) (args .first) (args .ats .now) (args .offsets .now) (args .rules .now) (args .events .now) (args .hi .0) _ _ _ (at-turn-on .turn-on .ensures .0) (at-next .next .given .1) in (
+    let args = entry at-pieces .args in
+    let on = turned (args .book .now) (args .first) (args .ats .now) (args .offsets .now) (args .rules .now) (args .events .now) (args .hi .0) _ _ _
+    (at-turn-on .turn-on .ensures .0) (at-next .next .given .1) in (
       on .stands,
       turn-written (args .book .now) (args .first) (args .ats .now) (args .offsets .now) (args .rules .now) (args .events .now) (args .hi .0)
           (at-pieces .pieces .inv .1) on,
@@ -227,16 +195,12 @@ pieces-again-2 c =
 
 returns : At tie.Need-returns
 returns c =
-    let at-enum-told2 = c in
-    let at-turn-on = at-enum-told2 .before .before in
+    let at-turn-on = c .before .before in
     let at-pieces = at-turn-on .before .before .before .before .before .before .before in
-    let at-begin = at-pieces .before .before in
-    let at-start = at-begin .before .before .before .before .before .before .before .before .before in
-    let args = at-start .args in
-    walk-put (args .book .now) (args .first) (args .ats .now) (args .offsets .now) (args .rules .now) (args .events .now) (args .hi .0)
-    (at-start .pre .0) (at-begin .begin .ensures .0) (at-pieces .pieces .inv .1)
+    let args = entry at-pieces .args in
+    walk-put _ _ _ _ _ _ _ (entry at-pieces .pre .0) (at-pieces .before .before .begin .ensures .0) (at-pieces .pieces .inv .1)
     (gone (args .book .now) (args .first) (args .ats .now) (args .offsets .now) (args .rules .now) (args .events .now) (args .hi .0) _ _ _
-    (at-turn-on .turn-on .ensures .0) (at-enum-told2 .enum-told2 .given .1))
+    (at-turn-on .turn-on .ensures .0) (c .enum-told2 .given .1))
 
 same-length : At tie.Need-same-length
 same-length c = returns c .kept
