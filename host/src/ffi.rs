@@ -88,17 +88,16 @@ pub fn tally(book: &[u8], start: i64, end: i64, out: &mut [u8]) -> Reply {
     unsafe { market_time_tally(bytes, book.len(), start, end, room, out.len()) }
 }
 
-/// Without a `now` there is no mark, and the number passed for it is not judged.
 pub fn cells(
     row: &[u8],
     start: i64,
     end: i64,
     columns: i64,
-    now: Option<i64>,
+    marked: bool,
+    now: i64,
     out: &mut [u8],
 ) -> Reply {
     let (bytes, room) = (row.as_ptr(), out.as_mut_ptr());
-    let (marked, now) = (now.is_some(), now.unwrap_or(0));
     // SAFETY: both slices are good for their lengths and do not overlap.
     unsafe {
         market_time_cells(

@@ -79,8 +79,8 @@ pub fn cells<'a>(
     room: &'a mut [u8],
 ) -> Result<&'a str, Refusal> {
     let (start, end) = (window.start.0, window.end.0);
-    let reply = ffi::cells(row, start, end, columns, now.map(|now| now.0), room);
-    let length = answered(reply)?;
+    let (marked, now) = mark(now);
+    let length = answered(ffi::cells(row, start, end, columns, marked, now, room))?;
     Ok(text(&room[..length]))
 }
 
@@ -113,6 +113,11 @@ fn answered(reply: ffi::Reply) -> Result<usize, Refusal> {
         0 => Ok(reply.length),
         number => Err(Refusal::of(number)),
     }
+}
+
+/// Whether now is marked, and now: a number that is not judged where there is no mark.
+fn mark(now: Option<Nanos>) -> (bool, i64) {
+    (now.is_some(), now.map_or(0, |now| now.0))
 }
 
 fn text(cells: &[u8]) -> &str {

@@ -1,7 +1,7 @@
 //! Room that grows until the answer fits.
 
 use crate::answer::{Point, Row, Tally};
-use crate::{Nanos, Refusal, Window, answered, ffi, text};
+use crate::{Nanos, Refusal, Window, answered, ffi, mark, text};
 
 /// A buffer of its own, to be used again and again. It grows while the library says that the answer is longer, up to
 /// its limit; an answer longer than that is refused by `RoomTooSmall`.
@@ -55,8 +55,8 @@ impl Room {
         now: Option<Nanos>,
     ) -> Result<&str, Refusal> {
         let (start, end) = (window.start.0, window.end.0);
-        let now = now.map(|now| now.0);
-        self.fit(|room| ffi::cells(row, start, end, columns, now, room))
+        let (marked, now) = mark(now);
+        self.fit(|room| ffi::cells(row, start, end, columns, marked, now, room))
             .map(text)
     }
 

@@ -1,11 +1,25 @@
 //! A book as values, and its bytes after document 01, "Book".
 
+use crate::judge::DAYS;
+
 /// What a rule or an event has published: tag, nanoseconds, text.
 #[derive(Debug, Clone, Copy, PartialEq, Eq)]
 pub struct Published {
     pub tag: u8,
     pub nanos: i64,
     pub text: u16,
+}
+
+impl Published {
+    pub const EXACT: Self = Self::tagged(0);
+
+    pub const fn tagged(tag: u8) -> Self {
+        Self {
+            tag,
+            nanos: 0,
+            text: 0,
+        }
+    }
 }
 
 #[derive(Debug, Clone, PartialEq, Eq)]
@@ -20,6 +34,23 @@ pub struct Rule {
     pub published: Published,
     /// Nanoseconds of the day, and the phase from there on.
     pub points: Vec<(u64, u8)>,
+}
+
+impl Rule {
+    /// A weekly rule, exact, for all days that a book may name.
+    pub fn weekly(evidence: u16, mask: u8, points: Vec<(u64, u8)>) -> Self {
+        Self {
+            first: DAYS[0],
+            last: DAYS[1],
+            code: 0,
+            mask,
+            label: 0,
+            evidence,
+            derived: 0,
+            published: Published::EXACT,
+            points,
+        }
+    }
 }
 
 #[derive(Debug, Clone, PartialEq, Eq)]

@@ -323,24 +323,6 @@ pub fn book(random: &mut Random) -> Vec<Record> {
     records
 }
 
-fn plain_rule(evidence: u16, mask: u8, points: Vec<(u64, u8)>) -> Rule {
-    Rule {
-        first: DAYS[0],
-        last: DAYS[1],
-        code: 0,
-        mask,
-        label: 0,
-        evidence,
-        derived: 0,
-        published: Published {
-            tag: 0,
-            nanos: 0,
-            text: 0,
-        },
-        points,
-    }
-}
-
 /// A small book whose dates overlap: a gap ends at a midnight or shortly before, and a point inside it is put past that
 /// midnight. The phase goes on over the midnight, so the spans join, and the overlap has events: they are listed
 /// twice, and most are out of order.
@@ -378,7 +360,7 @@ pub fn overlap(random: &mut Random) -> Vec<Record> {
         points.insert(third, random.below(8) as u8);
         points.insert(2 * third, phase);
     }
-    let mut rules = vec![plain_rule(evidence, 127, points.into_iter().collect())];
+    let mut rules = vec![Rule::weekly(evidence, 127, points.into_iter().collect())];
     rules[0].published = published(random);
     if random.percent(40) {
         // Another rule of the same evidence on the next date: it joins all the same.
@@ -437,11 +419,11 @@ pub fn years(random: &mut Random) -> Vec<Record> {
     let one = vec![(0, random.below(8) as u8)];
     let mut rules = match random.below(8) {
         0 | 1 => vec![],
-        2 => vec![plain_rule(1, 1, two)],
-        3 => vec![plain_rule(1, 127, two)],
-        4 => vec![plain_rule(1, 31, one.clone()), plain_rule(2, 96, one)],
-        5 => vec![plain_rule(1, 31, one.clone()), plain_rule(1, 96, one)],
-        _ => vec![plain_rule(1, 127, one)],
+        2 => vec![Rule::weekly(1, 1, two)],
+        3 => vec![Rule::weekly(1, 127, two)],
+        4 => vec![Rule::weekly(1, 31, one.clone()), Rule::weekly(2, 96, one)],
+        5 => vec![Rule::weekly(1, 31, one.clone()), Rule::weekly(1, 96, one)],
+        _ => vec![Rule::weekly(1, 127, one)],
     };
     for rule in &mut rules {
         rule.published = published(random);

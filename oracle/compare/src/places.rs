@@ -37,30 +37,13 @@ pub fn change(seconds: i64, offset: i64) -> Record {
     }
 }
 
-fn tag(tag: u8) -> Published {
-    Published {
-        tag,
-        nanos: 0,
-        text: 0,
-    }
-}
-
 /// A weekly rule of evidence 1, exact, with times in seconds of the day.
 pub fn weekly(mask: u8, points: &[(i64, u8)]) -> Rule {
-    Rule {
-        first: DAYS[0],
-        last: DAYS[1],
-        code: 0,
-        mask,
-        label: 0,
-        evidence: 1,
-        derived: 0,
-        published: tag(0),
-        points: points
-            .iter()
-            .map(|&(time, phase)| ((time * SECOND) as u64, phase))
-            .collect(),
-    }
+    let points = points
+        .iter()
+        .map(|&(time, phase)| ((time * SECOND) as u64, phase))
+        .collect();
+    Rule::weekly(1, mask, points)
 }
 
 /// Closed on every date, in one span.
@@ -87,7 +70,7 @@ fn events(times: &[i64]) -> Record {
         last: DAYS[1],
         code: SETTLEMENT,
         evidence: 7,
-        published: tag(1),
+        published: Published::tagged(1),
         times: times.iter().map(|time| (time * SECOND) as u64).collect(),
     })
 }
@@ -307,7 +290,7 @@ fn places() -> Vec<Doubtful> {
                 head(0),
                 Record::Rule(weekly(1, &[(0, 0)])),
                 Record::Rule(Rule {
-                    published: tag(1),
+                    published: Published::tagged(1),
                     ..weekly(2, &[(0, 0)])
                 }),
             ],
@@ -323,7 +306,7 @@ fn places() -> Vec<Doubtful> {
             book: vec![
                 head(0),
                 Record::Rule(Rule {
-                    published: tag(1),
+                    published: Published::tagged(1),
                     ..weekly(1, &[(0, 0)])
                 }),
                 Record::Rule(weekly(2, &[(0, 0)])),
@@ -341,7 +324,7 @@ fn places() -> Vec<Doubtful> {
                 head(0),
                 change(10 * HOUR, -HOUR),
                 Record::Rule(Rule {
-                    published: tag(3),
+                    published: Published::tagged(3),
                     ..weekly(127, &[(0, 0), (34_200, 3)])
                 }),
             ],
@@ -358,7 +341,7 @@ fn places() -> Vec<Doubtful> {
                 head(0),
                 change(10 * HOUR, -HOUR),
                 Record::Rule(Rule {
-                    published: tag(3),
+                    published: Published::tagged(3),
                     ..weekly(127, &[(0, 0), (34_200, 3)])
                 }),
             ],

@@ -1,7 +1,7 @@
 //! Books and windows for `agree`: most of their dates are plain, though clocks change on them.
 
-use crate::book::{Published, Record, Rule};
-use crate::judge::{DAY, DAYS, INSTANTS, SECOND, SECONDS, SPACING};
+use crate::book::{Record, Rule};
+use crate::judge::{DAY, INSTANTS, SECOND, SECONDS, SPACING};
 use crate::make::{self, DAY_SECONDS};
 use crate::plain::{DATE, MOST_DATES, Venue};
 use crate::random::Random;
@@ -64,14 +64,6 @@ fn changes(
     (made, jumped)
 }
 
-fn published() -> Published {
-    Published {
-        tag: 0,
-        nanos: 0,
-        text: 0,
-    }
-}
-
 /// A rule with few points, or one.
 fn rule(random: &mut Random, evidence: u16, mask: u8) -> Rule {
     let mut points = BTreeMap::from([(0, random.below(8) as u8)]);
@@ -81,17 +73,7 @@ fn rule(random: &mut Random, evidence: u16, mask: u8) -> Rule {
         let time = *random.pick(&[second, any, any]) * SECOND as u64;
         points.insert(time, random.below(8) as u8);
     }
-    Rule {
-        first: DAYS[0],
-        last: DAYS[1],
-        code: 0,
-        mask,
-        label: 0,
-        evidence,
-        derived: 0,
-        published: published(),
-        points: points.into_iter().collect(),
-    }
+    Rule::weekly(evidence, mask, points.into_iter().collect())
 }
 
 /// Weekly rules, some dates of theirs without a rule, and special dates beside the clock changes and on skipped dates.

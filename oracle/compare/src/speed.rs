@@ -21,12 +21,6 @@ const FIRST: i32 = 20_454;
 /// How many rows are counted.
 const ROWS: u16 = 100;
 
-const EXACT: Published = Published {
-    tag: 0,
-    nanos: 0,
-    text: 0,
-};
-
 fn rule(code: u8, mask: u8, first: i32, last: i32, points: &[(i64, u8)]) -> Record {
     Record::Rule(Rule {
         first,
@@ -36,7 +30,7 @@ fn rule(code: u8, mask: u8, first: i32, last: i32, points: &[(i64, u8)]) -> Reco
         label: u16::from(code),
         evidence: 1,
         derived: 0,
-        published: EXACT,
+        published: Published::EXACT,
         points: points
             .iter()
             .map(|&(second, phase)| ((second * SECOND) as u64, phase))
@@ -54,7 +48,7 @@ fn event(times: &[i64], days: i32) -> Record {
         last: FIRST + days - 1,
         code: 1,
         evidence: 1,
-        published: EXACT,
+        published: Published::EXACT,
         times: times
             .iter()
             .map(|second| (second * SECOND) as u64)
@@ -178,14 +172,19 @@ fn answered(name: &str, book: &[u8], query: Query, tries: usize, calls: usize) {
     told(name, ours, given, length);
 }
 
-fn drawn_cells(name: &str, bytes: &[u8], days: i64, columns: i64, calls: usize) {
-    let asked = Cells {
+/// So many days in so many columns, now marked.
+fn drawing(days: i64, columns: i64) -> Cells {
+    Cells {
         start: YEAR,
         end: YEAR + days * DAY,
         columns,
         marked: true,
         now: YEAR + 1,
-    };
+    }
+}
+
+fn drawn_cells(name: &str, bytes: &[u8], days: i64, columns: i64, calls: usize) {
+    let asked = drawing(days, columns);
     let timeline = drawn::timeline(&row::row(bytes).expect("a good row"));
     let length = columns as usize + 2;
     let mut room = Room::new(length);
@@ -217,13 +216,7 @@ fn counted(name: &str, bytes: &[u8], days: i64, calls: usize) {
 
 /// A row from the book itself: the window resolved, then drawn. The original begins with its ruleset.
 fn drawn_from_the_book(name: &str, book: &[u8], days: i64, columns: i64, calls: usize) {
-    let asked = Cells {
-        start: YEAR,
-        end: YEAR + days * DAY,
-        columns,
-        marked: true,
-        now: YEAR + 1,
-    };
+    let asked = drawing(days, columns);
     let window = Query::Window {
         start: asked.start,
         end: asked.end,
