@@ -3,129 +3,111 @@ use Rattle.day.proofs.Points.{point-before, point-behind, by-first, by-
 use Rattle.day.specs.Meaning.{held, Placed}
 use Rattle.day.specs.Days.{Held, venueBy}
 use Rattle.day.specs.Governing.{governing}
-use Rattle.spans.specs.Timeline.{spans}
+use Rattle.spans.specs.Timeline.{Venue, spans}
 use Rattle.spans.specs.Spans.{look}
 use Rattle.records.specs.Records.{ruleAt}
 use Rattle.zone.specs.Zone.{zoneOf}
-use mathlib.Core.List.{map}
-use Prim.Native.Nat.{ℕ}
-use mathlib.Core.Path.{sym, ap, _∙_, subst}
+use mathlib.Core.List.{List, map}
+use mathlib.Core.Option.{Option}
+use Prim.Native.Nat.{ℕ, suc, _-_}
+use mathlib.Core.Path.{_≡_, sym, ap, _∙_, subst}
 use native.Mathlib.Numerals.{add-one}
 use native.Mathlib.Omega.{arith}
 use borrow.Author.Needs.{needs}
 use Rattle.day.proofs.ask.point.Statement.{statement}
 use Rattle.day.proofs.ask.point.Tie as tie
 
+-- ---- the venue, and what is found on a date
+
+abbrev venueIn : tie.Start → Venue Held
+venueIn c =
+    venueBy (zoneOf (c .args .first) (c .args .ats .now) (c .args .offsets .now)) (governing (map (ruleAt (c .args .book .now)) (c .args .rules .now)))
+
+abbrev foundOn : tie.Start → ℕ → Option Held
+foundOn c d = look (λ (h : Held). h) (spans (venueIn c) d) (c .args .t .0)
+
+abbrev bookIn : tie.Start → List ℕ
+bookIn c = c .args .book .now
+
+abbrev start : tie.After-day-at → tie.Start
+start c = c .before .before .before .before .before .before .before .before .before .before .before
+
+abbrev today : tie.After-day-holding → tie.After-day-at
+today c = c .before .before .before
+
+abbrev today2 : tie.After-day-holding2 → tie.After-day-at
+today2 c = today (c .before .before .before)
+
+-- yesterday's
+earlier : (c : tie.After-day-holding)
+    → let s = start (today c) in held (bookIn s) (c .day-holding .result) ≡ foundOn s (today c .day-at .result .0 - 1)
+earlier c = c .day-holding .ensures .0 ∙ ap (foundOn (start (today c))) (c .before .before .day-before .ensures)
+
+-- ---- the needs
+
 returns : tie.Need-returns
 returns c =
-    let at-if1 = c in
-    let at-start = at-if1 .before .before .before .before .before .before .before in
-    let args = at-start .args in (
-      point-before
-          (venueBy (zoneOf (args .first) (args .ats .now) (args .offsets .now)) (governing (map (ruleAt (args .book .now)) (args .rules .now)))) _
-          (args .t .0) (at-if1 .if1 .taken),
-      tt,
-    )
+    let s = c .before .before .before .before .before .before .before in
+    (point-before (venueIn s) _ (s .args .t .0) (c .if1 .taken), tt)
 
 returns-2 : tie.Need-returns-2
 returns-2 c =
-    let at-if2 = c in
-    let at-start = at-if2 .before .before .before .before .before .before .before .before .before .before in
-    let args = at-start .args in (
-      point-behind
-          (venueBy (zoneOf (args .first) (args .ats .now) (args .offsets .now)) (governing (map (ruleAt (args .book .now)) (args .rules .now)))) _
-          (args .t .0) (at-if2 .if2 .taken),
-      tt,
-    )
+    let s = c .before .before .before .before .before .before .before .before .before .before in
+    (point-behind (venueIn s) _ (s .args .t .0) (c .if2 .taken), tt)
 
 day-at-requires : tie.Need-day-at-requires
-day-at-requires c κs =
-    let at-start = c .before .before .before .before .before .before .before .before .before .before in
-    (at-start .pre) .0
+day-at-requires c κs = c .before .before .before .before .before .before .before .before .before .before .pre .0
 
 add-t15 : tie.Need-add-t15
 add-t15 c =
     let at-day-at = c .before .before in
-    let at-start = at-day-at .before .before .before .before .before .before .before .before .before .before .before in
-    let args = at-start .args in
-    let e = at-day-at .day-at .ensures in
-    omega (arith, date-small (args .first) (args .ats .now) (args .offsets .now) (args .t .0) (at-start .pre .0))
+    let s = start at-day-at in
+    omega (arith, at-day-at .day-at .ensures, date-small (s .args .first) (s .args .ats .now) (s .args .offsets .now) (s .args .t .0) (s .pre .0))
 
 day-holding-requires : tie.Need-day-holding-requires
-day-holding-requires c κs =
-    let at-start = c .before .before .before .before .before .before .before .before .before .before .before .before .before in
-    (at-start .pre)
+day-holding-requires c κs = start (c .before .before) .pre
 
 day-holding-requires-2 : tie.Need-day-holding-requires-2
-day-holding-requires-2 c κs =
-    let at-start = c .before .before .before .before .before .before .before .before .before .before .before .before .before .before .before .before in
-    (at-start .pre)
+day-holding-requires-2 c κs = start (today (c .before .before)) .pre
 
 day-holding-requires-3 : tie.Need-day-holding-requires-3
-day-holding-requires-3 c κs =
-    let at-start = c .before .before .before .before .before .before .before .before .before .before .before .before .before .before .before .before .before .before .before in
-    (at-start .pre)
+day-holding-requires-3 c κs = start (today2 (c .before .before)) .pre
 
 returns-3 : tie.Need-returns-3
 returns-3 c =
     let at-g = c .before in
-    let at-day-holding = at-g .before .before in
-    let at-day-before = at-day-holding .before .before in
-    let at-day-at = at-day-before .before in
-    let at-if2 = at-day-at .before in
-    let at-if1 = at-if2 .before .before .before in
-    let at-start = at-if1 .before .before .before .before .before .before .before in
-    let args = at-start .args in
-    let v = venueBy (zoneOf (args .first) (args .ats .now) (args .offsets .now)) (governing (map (ruleAt (args .book .now)) (args .rules .now))) in (
-      by-first v _ (args .t .0) (at-if1 .if1 .left) (at-if2 .if2 .left) _ (at-day-at .day-at .ensures) _ (ap (held (args .book .now))
-          (sym (at-g .g .given .1)) ∙ ((at-day-holding .day-holding .ensures .0) ∙ ap (λ (d : ℕ). look (λ (h : Held). h) (spans v d) (args .t .0))
-          (at-day-before .day-before .ensures))),
-      subst (Placed (args .book .now)) (at-g .g .given .1) (at-day-holding .day-holding .ensures .1),
+    let e = at-g .before .before in
+    let d = today e in
+    let s = start d in (
+      by-first (venueIn s) _ (s .args .t .0) (d .before .before .before .before .if1 .left) (d .before .if2 .left) _ (d .day-at .ensures) _
+          (ap (held (bookIn s)) (sym (at-g .g .given .1)) ∙ earlier e),
+      subst (Placed (bookIn s)) (at-g .g .given .1) (e .day-holding .ensures .1),
     )
 
 returns-4 : tie.Need-returns-4
 returns-4 c =
     let at-g2 = c .before in
-    let at-day-holding2 = at-g2 .before .before in
-    let at-enum-told = at-day-holding2 .before in
-    let at-day-holding = at-enum-told .before .before in
-    let at-day-before = at-day-holding .before .before in
-    let at-day-at = at-day-before .before in
-    let at-if2 = at-day-at .before in
-    let at-if1 = at-if2 .before .before .before in
-    let at-start = at-if1 .before .before .before .before .before .before .before in
-    let args = at-start .args in
-    let v = venueBy (zoneOf (args .first) (args .ats .now) (args .offsets .now)) (governing (map (ruleAt (args .book .now)) (args .rules .now))) in
-    let held-is = held (args .book .now) in (
-      by-second v _ (args .t .0) (at-if1 .if1 .left) (at-if2 .if2 .left) _ (at-day-at .day-at .ensures) (ap held-is
-          (sym (at-enum-told .enum-told .given .1)) ∙ ((at-day-holding .day-holding .ensures .0) ∙ ap
-          (λ (d : ℕ). look (λ (h : Held). h) (spans v d) (args .t .0)) (at-day-before .day-before .ensures))) _
-          (ap held-is (sym (at-g2 .g2 .given .1)) ∙ (at-day-holding2 .day-holding2 .ensures) .0),
-      subst (Placed (args .book .now)) (at-g2 .g2 .given .1)
-          (at-day-holding2 .day-holding2 .ensures .1),
+    let f = at-g2 .before .before in
+    let e = f .before .before .before in
+    let d = today2 f in
+    let s = start d in (
+      by-second (venueIn s) _ (s .args .t .0) (d .before .before .before .before .if1 .left) (d .before .if2 .left) _ (d .day-at .ensures)
+          (ap (held (bookIn s)) (sym (f .before .enum-told .given .1)) ∙ earlier e) _
+          (ap (held (bookIn s)) (sym (at-g2 .g2 .given .1)) ∙ f .day-holding2 .ensures .0),
+      subst (Placed (bookIn s)) (at-g2 .g2 .given .1) (f .day-holding2 .ensures .1),
     )
 
 returns-5 : tie.Need-returns-5
 returns-5 c =
-    let at-day-holding3 = c in
-    let at-enum-told2 = at-day-holding3 .before in
-    let at-day-holding2 = at-enum-told2 .before .before in
-    let at-enum-told = at-day-holding2 .before in
-    let at-day-holding = at-enum-told .before .before in
-    let at-day-before = at-day-holding .before .before in
-    let at-day-at = at-day-before .before in
-    let at-if2 = at-day-at .before in
-    let at-if1 = at-if2 .before .before .before in
-    let at-start = at-if1 .before .before .before .before .before .before .before in
-    let args = at-start .args in
-    let v = venueBy (zoneOf (args .first) (args .ats .now) (args .offsets .now)) (governing (map (ruleAt (args .book .now)) (args .rules .now))) in
-    let held-is = held (args .book .now) in (
-      by-third v _ (args .t .0) (at-if1 .if1 .left) (at-if2 .if2 .left) _ (at-day-at .day-at .ensures) (ap held-is
-          (sym (at-enum-told .enum-told .given .1)) ∙ ((at-day-holding .day-holding .ensures .0) ∙ ap
-          (λ (d : ℕ). look (λ (h : Held). h) (spans v d) (args .t .0)) (at-day-before .day-before .ensures)))
-          (ap held-is (sym (at-enum-told2 .enum-told2 .given .1)) ∙ (at-day-holding2 .day-holding2 .ensures) .0) _
-          ((at-day-holding3 .day-holding3 .ensures .0) ∙ ap (λ (d : ℕ). look (λ (h : Held). h) (spans v d) (args .t .0)) (add-one _)),
-      (at-day-holding3 .day-holding3 .ensures .1),
+    let f = c .before .before .before in
+    let e = f .before .before .before in
+    let d = today2 f in
+    let s = start d in (
+      by-third (venueIn s) _ (s .args .t .0) (d .before .before .before .before .if1 .left) (d .before .if2 .left) _ (d .day-at .ensures)
+          (ap (held (bookIn s)) (sym (f .before .enum-told .given .1)) ∙ earlier e)
+          (ap (held (bookIn s)) (sym (c .before .enum-told2 .given .1)) ∙ f .day-holding2 .ensures .0) _
+          (c .day-holding3 .ensures .0 ∙ ap (foundOn s) (add-one _)),
+      c .day-holding3 .ensures .1,
     )
 
 pub point-spec : {M : Type 1} → statement M
