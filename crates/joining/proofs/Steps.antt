@@ -52,6 +52,10 @@ module _ (s : List ℕ) (first : ℕ) (ats offsets rules events : List ℕ) (hi 
   abbrev pub left : Walk → List (Span Shown)
   left w = map (showsSpan z es) (rest s z (venueBy z g) hi w)
 
+  -- a piece comes
+  abbrev pub Coming : Walk → Piece → List ℕ → Type 0
+  Coming w q a = Comes s z (venueBy z g) hi w q a
+
   pub end-at : (q : Piece) → endEdge s q .at ≡ q .end .0
   end-at q = go (ltb (q .point + 1) (length (ruleOf s q .points))) _ _ refl refl
     where
@@ -62,7 +66,7 @@ module _ (s : List ℕ) (first : ℕ) (ats offsets rules events : List ℕ) (hi 
   pub many-found : (q : Piece) → many (spanOf q) ≡ length (found z es (q .start .0) (q .end .0))
   many-found q = length-sorted (found z es (q .start .0) (endEdge s q .at)) ∙ ap (λ (t : ℕ). length (found z es (q .start .0) t)) (end-at q)
 
-  pub come-left : {w : Walk} {q : Piece} {a : List ℕ} → Comes s z (venueBy z g) hi w q a → left w ≡ spanOf q ∷ left (behind q)
+  pub come-left : {w : Walk} {q : Piece} {a : List ℕ} → Coming w q a → left w ≡ spanOf q ∷ left (behind q)
   come-left c = ap (map (showsSpan z es)) (c .first)
 
   pub done-left : (w : Walk) → rest s z (venueBy z g) hi w ≡ [] → left w ≡ []
@@ -91,7 +95,7 @@ module _ (s : List ℕ) (first : ℕ) (ats offsets rules events : List ℕ) (hi 
     pub joins-read : (q : Piece) {p e : ℕ} → p ≡ pointOf s q (q .point) .phase → e ≡ ruleOf s q .evidence → (l : Last) {b : Bool} → b ≡ joinsLast l (q .from .0) p e → b ≡ joinsNext l (spanOf q)
     joins-read q a c l j = j ∙ ap₂ (joinsLast l (q .from .0)) a c
 
-    module _ {w : Walk} {q : Piece} {a : List ℕ} (c : Comes s z (venueBy z g) hi w q a) {p e : ℕ} (phase-is : p ≡ pointOf s q (q .point) .phase) (evidence-is : e ≡ ruleOf s q .evidence) where
+    module _ {w : Walk} {q : Piece} {a : List ℕ} (c : Coming w q a) {p e : ℕ} (phase-is : p ≡ pointOf s q (q .point) .phase) (evidence-is : e ≡ ruleOf s q .evidence) where
       pub sized : {total size : ℕ} {last : Last} → Sizing total last size (left w) → {b : Bool} → b ≡ joinsLast last (q .from .0) p e → {n m k : ℕ} → n ≡ cond b 0 105
           → m ≡ length (found z es (q .start .0) (q .end .0)) → k ≡ size + n + 35 * m → Sizing total (Shows (q .to) p e) k (left (behind q))
       sized {total} {size} {last} i {b} j {n} {m} {k} x y t =
@@ -105,7 +109,7 @@ module _ (s : List ℕ) (first : ℕ) (ats offsets rules events : List ℕ) (hi 
   -- ---- a step: a piece of the date at hand, or the next turn
 
   module _ (r : Ready s first ats offsets rules events) (w : Walk) (p : Pulled) (a : List ℕ) (h : Stands s z w a) (l : Looked s a hi w p) where
-    pub come : {q : Piece} → p ≡ Next q → Comes s z (venueBy z g) hi w q a
+    pub come : {q : Piece} → p ≡ Next q → Coming w q a
     come e = looked-comes first ats offsets (r .zone) s (venueBy z g) hi w a h (subst (Looked s a hi w) e l)
 
     pub shown : p ≡ Done → Looking·Shown s z hi w

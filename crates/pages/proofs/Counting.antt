@@ -7,7 +7,7 @@ use native.Mathlib.Omega.{arith}
 use native.Mathlib.Decide.{ℕ-discrete}
 use borrow.Author.Tests.{eq-eqb, ne-eqb, eqb-true}
 use lib.Dec.{eqb}
-use lib.ListN.{getD, set, length-set}
+use lib.ListN.{length, getD, set, length-set}
 use lib.Seq.{getD-set-same, getD-set-other, ext-getD}
 use Rattle.spans.specs.Spans.{Mark, phase, unknown, Span}
 use Rattle.spans.specs.Totals.{anyMark, total}
@@ -20,7 +20,7 @@ abbrev pub partOf : ℕ → ℕ → Span Mark → ℕ
 partOf a b s = min b (s .to) - max a (s .from)
 
 module _ (k : Mark → Bool) (a b : ℕ) where
-  pub one-first : (s : Span Mark) (ss : List (Span Mark)) → total marks k a b (s ∷ ss) ≡ cond (k (s .body)) (partOf a b s) 0 + total marks k a b ss
+  one-first : (s : Span Mark) (ss : List (Span Mark)) → total marks k a b (s ∷ ss) ≡ cond (k (s .body)) (partOf a b s) 0 + total marks k a b ss
   unfolding total
   one-first s ss = refl
 
@@ -60,10 +60,7 @@ small end (s ∷ ss) w k a b =
     let e = later-start k a b (s .to) ss (w .1) in
     let f = one-first k a b s ss in
     let m = cond-most k a b (k (s .body)) (partOf a b s) in
-    split (partOf a b s) (cond (k (s .body)) (partOf a b s) 0) (total marks k a b (s ∷ ss)) (total marks k a b ss) (omega arith) m f (omega (arith, on, e))
-  where
-    split : (p q r t : ℕ) → p ≤ min b (s .to) - a → q ≤ p → r ≡ q + t → t ≤ b - max a (s .to) → r ≤ b - a
-    split p q r t h i j l = omega arith
+    omega (arith, on, e, f, m)
 
 -- ---- a row's totals
 
@@ -72,7 +69,7 @@ pub slot-small : (m : Mark) {j : ℕ} → Slot m j → j < 9
 slot-small (phase p e) s = omega (arith, s .is, s .low)
 slot-small unknown s = omega (arith, s .is)
 
-pub kind-slot : (m : Mark) {j : ℕ} → Slot m j → (i : ℕ) → kindAt i m ≡ eqb i j
+kind-slot : (m : Mark) {j : ℕ} → Slot m j → (i : ℕ) → kindAt i m ≡ eqb i j
 kind-slot (phase p e) {j} s i = go (eqb i 8) refl
   where
     go : (q : Bool) → eqb i 8 ≡ q → cond q false (eqb i p) ≡ eqb i j
@@ -84,30 +81,24 @@ kind-slot unknown {j} s i = go (eqb i 8) refl
     go true h = sym (ap (eqb i) (s .is) ∙ h)
     go false h = sym (ap (eqb i) (s .is) ∙ h)
 
--- the i-th
-pub totals-at : (a b : ℕ) (ss : List (Span Mark)) (i : ℕ) → i < 9 → getD (rowTotals marks a b ss) i 0 ≡ total marks (kindAt i) a b ss
-totals-at a b ss zero h = refl
-totals-at a b ss (suc zero) h = refl
-totals-at a b ss (suc (suc zero)) h = refl
-totals-at a b ss (suc (suc (suc zero))) h = refl
-totals-at a b ss (suc (suc (suc (suc zero)))) h = refl
-totals-at a b ss (suc (suc (suc (suc (suc zero))))) h = refl
-totals-at a b ss (suc (suc (suc (suc (suc (suc zero)))))) h = refl
-totals-at a b ss (suc (suc (suc (suc (suc (suc (suc zero))))))) h = refl
-totals-at a b ss (suc (suc (suc (suc (suc (suc (suc (suc zero)))))))) h = refl
-totals-at a b ss (suc (suc (suc (suc (suc (suc (suc (suc (suc i))))))))) h = absurd (omega arith)
+-- what holds of each slot
+slots : (P : ℕ → Type 0) → P 0 → P 1 → P 2 → P 3 → P 4 → P 5 → P 6 → P 7 → P 8 → (i : ℕ) → i < 9 → P i
+slots P p0 p1 p2 p3 p4 p5 p6 p7 p8 zero h = p0
+slots P p0 p1 p2 p3 p4 p5 p6 p7 p8 (suc zero) h = p1
+slots P p0 p1 p2 p3 p4 p5 p6 p7 p8 (suc (suc zero)) h = p2
+slots P p0 p1 p2 p3 p4 p5 p6 p7 p8 (suc (suc (suc zero))) h = p3
+slots P p0 p1 p2 p3 p4 p5 p6 p7 p8 (suc (suc (suc (suc zero)))) h = p4
+slots P p0 p1 p2 p3 p4 p5 p6 p7 p8 (suc (suc (suc (suc (suc zero))))) h = p5
+slots P p0 p1 p2 p3 p4 p5 p6 p7 p8 (suc (suc (suc (suc (suc (suc zero)))))) h = p6
+slots P p0 p1 p2 p3 p4 p5 p6 p7 p8 (suc (suc (suc (suc (suc (suc (suc zero))))))) h = p7
+slots P p0 p1 p2 p3 p4 p5 p6 p7 p8 (suc (suc (suc (suc (suc (suc (suc (suc zero)))))))) h = p8
+slots P p0 p1 p2 p3 p4 p5 p6 p7 p8 (suc (suc (suc (suc (suc (suc (suc (suc (suc i))))))))) h = absurd (omega arith)
+
+totals-at : (a b : ℕ) (ss : List (Span Mark)) (i : ℕ) → i < 9 → getD (rowTotals marks a b ss) i 0 ≡ total marks (kindAt i) a b ss
+totals-at a b ss = slots (λ i. getD (rowTotals marks a b ss) i 0 ≡ total marks (kindAt i) a b ss) refl refl refl refl refl refl refl refl refl
 
 fresh-at : (n i : ℕ) → i < 9 → getD (fresh n) i 0 ≡ 0
-fresh-at n zero h = refl
-fresh-at n (suc zero) h = refl
-fresh-at n (suc (suc zero)) h = refl
-fresh-at n (suc (suc (suc zero))) h = refl
-fresh-at n (suc (suc (suc (suc zero)))) h = refl
-fresh-at n (suc (suc (suc (suc (suc zero))))) h = refl
-fresh-at n (suc (suc (suc (suc (suc (suc zero)))))) h = refl
-fresh-at n (suc (suc (suc (suc (suc (suc (suc zero))))))) h = refl
-fresh-at n (suc (suc (suc (suc (suc (suc (suc (suc zero)))))))) h = refl
-fresh-at n (suc (suc (suc (suc (suc (suc (suc (suc (suc i))))))))) h = absurd (omega arith)
+fresh-at n = slots (λ i. getD (fresh n) i 0 ≡ 0) refl refl refl refl refl refl refl refl refl
 
 module _ {all : List (Span Mark)} (fits : (k : Mark → Bool) (x y : ℕ) → total marks k x y all ≤ y - x) {a b : ℕ} where
   -- a row begins
@@ -147,24 +138,30 @@ module _ {all : List (Span Mark)} (fits : (k : Mark → Bool) (x y : ℕ) → to
     pub gets : getD row j 0 + partOf a b s ≤ b - a
     gets = omega (arith, w .each j (slot-small (s .body) is), own-first, fits (kindAt j) a b)
 
+    -- the row with the stretch's slot grown
+    abbrev grown : List ℕ
+    grown = set row j (getD row j 0 + partOf a b s)
+
+    grown-long : length grown ≡ 10
+    grown-long = length-set row j (getD row j 0 + partOf a b s) ∙ w .long
+
+    grown-each : (i : ℕ) → i < 9 → Dec (i ≡ j) → getD grown i 0 + total marks (kindAt i) a b left ≡ total marks (kindAt i) a b all
+    grown-each i h (yes q) =
+        let l = slot-small (s .body) is in
+        let g = getD-set-same row j (getD row j 0 + partOf a b s) 0 (omega (arith, w .long)) in
+        rw q (omega (arith, g, w .each j l, own-first))
+    grown-each i h (no q) =
+        let g = getD-set-other row j i (getD row j 0 + partOf a b s) 0 q in
+        let z = kind-first i ∙ ap (λ (x : Bool). cond x (partOf a b s) 0 + total marks (kindAt i) a b left) (ne-eqb i j q) in
+        omega (arith, g, w .each i h, z)
+
     pub filled-one : {n : ℕ} → n ≡ partOf a b s → {row′ : List ℕ} → row′ ≡ shifted row j n → Filled all left a b row′
-    filled-one {n} e {row′} f =
+    filled-one e f =
+        let rest = getD row 9 0 - partOf a b s in
         rw (f, e)
         (record {
-          long = length-set (set row j (getD row j 0 + partOf a b s)) 9 (getD row 9 0 - partOf a b s) ∙ length-set row j (getD row j 0 + partOf a b s) ∙ w .long;
+          long = length-set grown 9 rest ∙ grown-long;
           each = λ i h.
-              ap (λ (x : ℕ). x + total marks (kindAt i) a b left) (getD-set-other (set row j (getD row j 0 + partOf a b s)) 9 i (getD row 9 0 - partOf a b s) 0 (λ z. omega arith)) ∙ go i h (ℕ-discrete i j);
-          rest =
-              getD-set-same (set row j (getD row j 0 + partOf a b s)) 9 (getD row 9 0 - partOf a b s) 0 (omega (arith, length-set row j (getD row j 0 + partOf a b s), w .long))
-              ∙ omega (arith, w .rest, any-first);
+              ap (λ (x : ℕ). x + total marks (kindAt i) a b left) (getD-set-other grown 9 i rest 0 (λ z. omega arith)) ∙ grown-each i h (ℕ-discrete i j);
+          rest = getD-set-same grown 9 rest 0 (omega (arith, grown-long)) ∙ omega (arith, w .rest, any-first);
         })
-      where
-        go : (i : ℕ) → i < 9 → Dec (i ≡ j) → getD (set row j (getD row j 0 + partOf a b s)) i 0 + total marks (kindAt i) a b left ≡ total marks (kindAt i) a b all
-        go i h (yes q) =
-            let l = slot-small (s .body) is in
-            let g = getD-set-same row j (getD row j 0 + partOf a b s) 0 (omega (arith, w .long)) in
-            rw q (omega (arith, g, w .each j l, own-first))
-        go i h (no q) =
-            let g = getD-set-other row j i (getD row j 0 + partOf a b s) 0 q in
-            let z = kind-first i ∙ ap (λ (x : Bool). cond x (partOf a b s) 0 + total marks (kindAt i) a b left) (ne-eqb i j q) in
-            omega (arith, g, w .each i h, z)

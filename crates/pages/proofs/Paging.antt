@@ -25,13 +25,13 @@ use Rattle.pages.proofs.Counting.{small, one-none, ahead-none, slot-sma
 -- ---- rows
 
 -- one row and those behind it
-pub rows-next : (n end at : ℕ) → at < end → end ≤ at + n * dayNs
+rows-next : (n end at : ℕ) → at < end → end ≤ at + n * dayNs
     → (m : ℕ) × (rowsFrom n end at ≡ record { start = at; end = rowEnd end at } ∷ rowsFrom m end (rowEnd end at)) × (end ≤ rowEnd end at + m * dayNs) × (suc m ≡ n)
 unfolding rowsFrom
 rows-next zero end at h e = absurd (omega arith)
 rows-next (suc m) end at h e = (m, simp (lt-ltb at end h), omega arith, refl)
 
-pub rows-none : (n end at : ℕ) → end ≤ at → rowsFrom n end at ≡ []
+rows-none : (n end at : ℕ) → end ≤ at → rowsFrom n end at ≡ []
 unfolding rowsFrom
 rows-none zero end at h = refl
 rows-none (suc n) end at h = simp (le-ltb at end h)
@@ -56,87 +56,43 @@ cutting-end {start} {end} {count} {at} c h = (omega (arith, c .same, ap length (
 
 -- ---- bytes
 
-row-long : (a b : ℕ) (all : List (Span Mark)) → length (encode (day (totalsOf a b (rowTotals marks a b all)))) ≡ 100
-row-long a b all = encode-length (day (totalsOf a b (rowTotals marks a b all))) refl
+-- a row's record, and the closing one
+abbrev dayOf : List (Span Mark) → ℕ → ℕ → Form
+dayOf all a b = dayForm marks all (record { start = a; end = b })
 
-closing-long : (a b : ℕ) (all : List (Span Mark)) → length (encodeAll (tally (totalsOf a b (rowTotals marks a b all)) ∷ [])) ≡ 100
-closing-long a b all = ap length (sym (one-form (tally (totalsOf a b (rowTotals marks a b all))))) ∙ encode-length (tally (totalsOf a b (rowTotals marks a b all))) refl
+abbrev closingOf : List (Span Mark) → ℕ → ℕ → Form
+closingOf all start end = tally (totalsOf start end (rowTotals marks start end all))
+
+day-long : (all : List (Span Mark)) (a b : ℕ) → length (encode (dayOf all a b)) ≡ 100
+day-long all a b = encode-length (dayOf all a b) refl
+
+closing-long : (all : List (Span Mark)) (start end : ℕ) → length (encodeAll (closingOf all start end ∷ [])) ≡ 100
+closing-long all start end = ap length (sym (one-form (closingOf all start end))) ∙ encode-length (closingOf all start end) refl
 
 days-long : (all : List (Span Mark)) (rs : List Part) → length (encodeAll (map (dayForm marks all) rs)) ≡ 100 * length rs
 unfolding encodeAll
 days-long all [] = refl
 days-long all (r ∷ rs) =
-    let f = dayForm marks all r in
-    let a = length-append (encode f) (encodeAll (map (dayForm marks all) rs)) in
-    let b = days-long all rs in
-    omega (arith, a, b, row-long (r .start) (r .end) all)
+    let a = length-append (encode (dayForm marks all r)) (encodeAll (map (dayForm marks all) rs)) in
+    omega (arith, a, days-long all rs, day-long all (r .start) (r .end))
 
 -- how long an answer is
 pub forms-long : (all : List (Span Mark)) (start end : ℕ) → length (encodeAll (rawForms all start end)) ≡ 100 * (length (rowsOf start end) + 1)
 forms-long all start end =
-    let days = map (dayForm marks all) (rowsOf start end) in
-    let a = append-length days (tally (totalsOf start end (rowTotals marks start end all)) ∷ []) in
-    omega (arith, a, days-long all (rowsOf start end), closing-long start end all)
+    let a = append-length (map (dayForm marks all) (rowsOf start end)) (closingOf all start end ∷ []) in
+    omega (arith, a, days-long all (rowsOf start end), closing-long all start end)
 
 -- ---- the page that is open
 
 module _ {all left : List (Span Mark)} {start end : ℕ} {room : List ℕ} {a b at : ℕ} {row now : List ℕ} (w : Paged all left start end room a b at row now) where
-  days-are : (m : ℕ) → rowsFrom (w .fuel) end a ≡ record { start = a; end = rowEnd end a } ∷ rowsFrom m end (rowEnd end a)
-      → dayForms all (w .fuel) end a ≡ dayForm marks all (record { start = a; end = b }) ∷ dayForms all m end b
-  days-are m e = let i = w .edge in rw i (ap (map (dayForm marks all)) e)
-
-  pub next-same : (m : ℕ) → rowsFrom (w .fuel) end a ≡ record { start = a; end = rowEnd end a } ∷ rowsFrom m end (rowEnd end a)
-      → map (dayForm marks all) (rowsOf start end) ≡ (w .done ++ (dayForm marks all (record { start = a; end = b }) ∷ [])) ++ dayForms all m end b
-  next-same m e =
-      w .same ∙ ap (λ (l : List Form). w .done ++ l) (days-are m e)
-      ∙ sym (append-assoc (w .done) (dayForm marks all (record { start = a; end = b }) ∷ []) (dayForms all m end b))
-
-  done-long : length (encodeAll (w .done)) ≡ at
-  done-long = w .put .many
-
-  -- there is room for its record, and for the closing total behind it
-  pub page-behind : at + 200 ≤ length now
-  page-behind =
-      let r = rows-next (w .fuel) end a (w .inside) (w .enough) in
-      let t = ap (λ (l : List Form). length (encodeAll l)) (next-same (r .0) (r .1)) in
-      let one = dayForm marks all (record { start = a; end = b }) in
-      let x = append-length (w .done ++ (one ∷ [])) (dayForms all (r .0) end b) in
-      let y = append-length (w .done) (one ∷ []) in
-      let o = ap length (one-form one) in
-      let l = append-length (map (dayForm marks all) (rowsOf start end)) (tally (totalsOf start end (rowTotals marks start end all)) ∷ []) in
-      omega (arith, t, x, y, o, row-long a b all, l, closing-long start end all, w .fits, w .put .kept, done-long)
-
-  pub page-inside : Inside at 100 now
-  page-inside = omega (arith, page-behind)
-
-  pub page-put : {now1 : List ℕ} {at1 : ℕ} → Put now at (encode (day (totalsOf a b (rowTotals marks a b all)))) 100 now1 at1
-      → Put room 0 (encodeAll (w .done ++ (dayForm marks all (record { start = a; end = b }) ∷ []))) at1 now1 at1
-  page-put {now1} {at1} y =
-      let one = dayForm marks all (record { start = a; end = b }) in
-      let e = encode-append (w .done) (one ∷ []) in
-      let o = one-form one in
-      rw (e, ← o) (also at1 (w .put) y (y .behind) (omega (arith, y .behind, page-behind, w .put .kept)))
-
--- ---- a stretch comes
-
-module _ {all left : List (Span Mark)} {from to : ℕ} {m : Mark} {a b : ℕ} {row : List ℕ} (fits : (k : Mark → Bool) (x y : ℕ) → total marks k x y all ≤ y - x)
-    (w : Filled all (stretchOf from to m ∷ left) a b row) {j n : ℕ} (is : Slot m j) (e : n ≡ min b to - max a from) where
-  -- what counting it requires
-  pub shift-room : {most : ℕ} → b < most → (j < 9) × (n ≤ getD row 9 0) × (getD row j 0 + n < most)
-  shift-room h = (slot-small m is, omega (arith, takes fits w is), omega (arith, gets fits w is))
-
-  pub shift-one : {row′ : List ℕ} → row′ ≡ shifted row j n → Filled all left a b row′
-  shift-one f = filled-one fits w is e f
-
-module _ {all left : List (Span Mark)} {from to : ℕ} {m : Mark} {start end : ℕ} {room : List ℕ} {a b at : ℕ} {row now : List ℕ}
-    (w : Paged all (stretchOf from to m ∷ left) start end room a b at row now) {row1 : List ℕ} (f : Filled all left a b row1) where
-  -- it ends in this row
-  pub page-passed : to ≤ b → Paged all left start end room a b at row1 now
-  page-passed h =
+  -- the same page, of other stretches that are left
+  page-left : {left′ : List (Span Mark)} {row′ : List ℕ} → Ordered end left′ → ((k : Mark → Bool) (x y : ℕ) → b ≤ x → total marks k x y left′ ≡ total marks k x y left)
+      → Filled all left′ a b row′ → Paged all left′ start end room a b at row′ now
+  page-left o l f =
       record {
         small = w .small;
-        ordered = w .ordered .2;
-        later = λ k x y i. sym (one-none k x y (stretchOf from to m) left (omega arith)) ∙ w .later k x y i;
+        ordered = o;
+        later = λ k x y i. l k x y i ∙ w .later k x y i;
         filled = f;
         edge = w .edge;
         inside = w .inside;
@@ -148,35 +104,73 @@ module _ {all left : List (Span Mark)} {from to : ℕ} {m : Mark} {start end : �
         fits = w .fits;
       }
 
+  next-same : (m : ℕ) → rowsFrom (w .fuel) end a ≡ record { start = a; end = rowEnd end a } ∷ rowsFrom m end (rowEnd end a)
+      → map (dayForm marks all) (rowsOf start end) ≡ (w .done ++ (dayOf all a b ∷ [])) ++ dayForms all m end b
+  next-same m e =
+      let i = w .edge in
+      let days : dayForms all (w .fuel) end a ≡ dayOf all a b ∷ dayForms all m end b = rw i (ap (map (dayForm marks all)) e) in
+      w .same ∙ ap (λ (l : List Form). w .done ++ l) days ∙ sym (append-assoc (w .done) (dayOf all a b ∷ []) (dayForms all m end b))
+
+  -- there is room for its record, and for the closing total behind it
+  page-behind : at + 200 ≤ length now
+  page-behind =
+      let r = rows-next (w .fuel) end a (w .inside) (w .enough) in
+      let t = ap (λ (l : List Form). length (encodeAll l)) (next-same (r .0) (r .1)) in
+      let x = append-length (w .done ++ (dayOf all a b ∷ [])) (dayForms all (r .0) end b) in
+      let y = append-length (w .done) (dayOf all a b ∷ []) in
+      let o = ap length (one-form (dayOf all a b)) in
+      let l = append-length (map (dayForm marks all) (rowsOf start end)) (closingOf all start end ∷ []) in
+      omega (arith, t, x, y, o, day-long all a b, l, closing-long all start end, w .fits, w .put .kept, w .put .many)
+
+  page-inside : Inside at 100 now
+  page-inside = omega (arith, page-behind)
+
+  page-put : {now1 : List ℕ} {at1 : ℕ} → Put now at (encode (dayOf all a b)) 100 now1 at1 → Put room 0 (encodeAll (w .done ++ (dayOf all a b ∷ []))) at1 now1 at1
+  page-put {now1} {at1} y =
+      let e = encode-append (w .done) (dayOf all a b ∷ []) in
+      let o = one-form (dayOf all a b) in
+      rw (e, ← o) (also at1 (w .put) y (y .behind) (omega (arith, y .behind, page-behind, w .put .kept)))
+
+-- ---- a stretch comes
+
+module _ {all left : List (Span Mark)} {from to : ℕ} {m : Mark} {a b : ℕ} {row : List ℕ} (fits : (k : Mark → Bool) (x y : ℕ) → total marks k x y all ≤ y - x)
+    (w : Filled all (stretchOf from to m ∷ left) a b row) {j n : ℕ} (is : Slot m j) (e : n ≡ min b to - max a from) where
+  -- what counting it requires
+  shift-room : {most : ℕ} → b < most → (j < 9) × (n ≤ getD row 9 0) × (getD row j 0 + n < most)
+  shift-room h = (slot-small m is, omega (arith, takes fits w is), omega (arith, gets fits w is))
+
+  shift-one : {row′ : List ℕ} → row′ ≡ shifted row j n → Filled all left a b row′
+  shift-one f = filled-one fits w is e f
+
+module _ {all left : List (Span Mark)} {from to : ℕ} {m : Mark} {start end : ℕ} {room : List ℕ} {a b at : ℕ} {row now : List ℕ}
+    (w : Paged all (stretchOf from to m ∷ left) start end room a b at row now) {row1 : List ℕ} (f : Filled all left a b row1) where
+  -- it ends in this row
+  page-passed : to ≤ b → Paged all left start end room a b at row1 now
+  page-passed h = page-left w (w .ordered .2) (λ k x y i. sym (one-none k x y (stretchOf from to m) left (omega arith))) f
+
   -- the row ends first, and its record is next
   module _ (h : b < to) where
     row-is : row1 ≡ rowTotals marks a b all
     row-is = filled-all (w .small) f (λ k. ahead-none k a b to left (omega arith) (w .ordered .1))
 
-    before-end : b < end
-    before-end = omega (arith, w .ordered .0)
+    page-turns : (b < end) × (b < rowEnd end b)
+    page-turns = (omega (arith, w .ordered .0), omega (arith, w .ordered .0))
 
-    next-edge : b < rowEnd end b
-    next-edge = omega (arith, before-end)
-
-    pub page-turns : (b < end) × (b < rowEnd end b)
-    page-turns = (before-end, next-edge)
-
-    pub page-room : (length row1 ≡ 10) × Inside at 100 now
+    page-room : (length row1 ≡ 10) × Inside at 100 now
     page-room = (f .long, page-inside w)
 
-    pub page-next : {now1 row2 : List ℕ} {at1 b1 : ℕ} → Put now at (encode (day (totalsOf a b row1))) 100 now1 at1 → b1 ≡ rowEnd end b → row2 ≡ fresh (b1 - b)
+    page-next : {now1 row2 : List ℕ} {at1 b1 : ℕ} → Put now at (encode (day (totalsOf a b row1))) 100 now1 at1 → b1 ≡ rowEnd end b → row2 ≡ fresh (b1 - b)
         → Paged all (stretchOf from to m ∷ left) start end room b b1 at1 row2 now1
     page-next {now1} {row2} {at1} {b1} y e g =
         let r = rows-next (w .fuel) end a (w .inside) (w .enough) in
         record {
           small = w .small;
           ordered = w .ordered;
-          later = λ k x z i. w .later k x z (omega (arith, next-edge));
+          later = λ k x z i. w .later k x z (omega (arith, page-turns .1));
           filled = rw g (filled-fresh (w .small) (λ k. w .later k b b1 (omega arith)));
           edge = e;
-          inside = before-end;
-          done = w .done ++ (dayForm marks all (record { start = a; end = b }) ∷ []);
+          inside = page-turns .0;
+          done = w .done ++ (dayOf all a b ∷ []);
           fuel = r .0;
           enough = omega (arith, r .2, w .edge);
           same = next-same w (r .0) (r .1);
@@ -207,7 +201,7 @@ module _ {now : List ℕ} {a b at : ℕ} {row : List ℕ} {end from to slot : �
       }
 
   -- the last one
-  pub rolling-end : to ≤ b1 → (all left : List (Span Mark)) (start : ℕ) (room : List ℕ) (m : Mark) → Slot m slot → Paged all (stretchOf from to m ∷ left) start end room a b at row now
+  rolling-end : to ≤ b1 → (all left : List (Span Mark)) (start : ℕ) (room : List ℕ) (m : Mark) → Slot m slot → Paged all (stretchOf from to m ∷ left) start end room a b at row now
       → Paged all left start end room a1 b1 at1 row2 now1
   rolling-end h all left start room m is w = let v = r .on all left start room m is w in page-passed v (shift-one (v .small) (v .filled) is e f) h
 
@@ -217,7 +211,7 @@ module _ {now : List ℕ} {p : Page} {start end from to slot : ℕ} {row whole :
   coming-whole e h = shift-room (c .stands .page .small) (c .stands .closing) (c .is) e h
 
   module _ {now1 : List ℕ} {a1 b1 at1 : ℕ} {row1 : List ℕ} (r : Rolling now (p .start .0) (p .end .0) (p .at) row end from to slot now1 a1 b1 at1 row1) where
-    abbrev pub paged : Paged (c .all) (stretchOf from to (c .mark) ∷ c .left) start end (c .room) a1 b1 at1 row1 now1
+    abbrev paged : Paged (c .all) (stretchOf from to (c .mark) ∷ c .left) start end (c .room) a1 b1 at1 row1 now1
     paged = r .on (c .all) (c .left) start (c .room) (c .mark) (c .is) (c .stands .page)
 
     module _ {n : ℕ} (e : n ≡ min b1 to - max a1 from) where
@@ -258,55 +252,36 @@ module _ {all : List (Span Mark)} {start end : ℕ} {room now : List ℕ} {p : P
         rest = omega (arith, f .rest, none-at anyMark a b end);
       }
 
-  pub one-more : Standing all (stretchOf end end unknown ∷ []) start end room now p row whole
+  one-more : Standing all (stretchOf end end unknown ∷ []) start end room now p row whole
   one-more =
       record {
-        page =
-            record {
-              small = w .page .small;
-              ordered = (omega arith, tt, tt);
-              later = λ k x y i. none-at k x y end ∙ w .page .later k x y i;
-              filled = filled-more (w .page .filled);
-              edge = w .page .edge;
-              inside = w .page .inside;
-              done = w .page .done;
-              fuel = w .page .fuel;
-              enough = w .page .enough;
-              same = w .page .same;
-              put = w .page .put;
-              fits = w .page .fits;
-            };
+        page = page-left (w .page) (omega arith, tt, tt) (λ k x y i. none-at k x y end) (filled-more (w .page .filled));
         closing = filled-more (w .closing);
       }
 
   module _ (h : end ≤ p .end .0) where
-    at-end : p .end .0 ≡ end
-    at-end = omega (arith, w .page .edge)
-
     none-left : (k : Mark → Bool) (x y : ℕ) → total marks k x y [] ≡ 0
     unfolding total
     none-left k x y = refl
 
     -- the last row and the closing total are written
-    pub all-written : {now1 now2 : List ℕ} {at1 at2 : ℕ} → Put now (p .at) (encode (day (totalsOf (p .start .0) (p .end .0) row))) 100 now1 at1
+    all-written : {now1 now2 : List ℕ} {at1 at2 : ℕ} → Put now (p .at) (encode (day (totalsOf (p .start .0) (p .end .0) row))) 100 now1 at1
         → Put now1 at1 (encode (tally (totalsOf start end whole))) 100 now2 at2 → Put room 0 (encodeAll (rawForms all start end)) at2 now2 at2
     all-written {now1} {now2} {at1} {at2} x y =
         let v = w .page in
+        let days = map (dayForm marks all) (rowsOf start end) in
+        let r = rows-next (v .fuel) end (p .start .0) (v .inside) (v .enough) in
+        let done = v .done ++ (dayOf all (p .start .0) (p .end .0) ∷ []) in
+        let none = rows-none (r .0) end (p .end .0) (omega arith) in
+        let same : days ≡ done = next-same v (r .0) (r .1) ∙ ap (λ (l : List Part). done ++ map (dayForm marks all) l) none ∙ append-nil done in
         let e = filled-all (v .small) (v .filled) (λ k. none-left k _ _) in
         let f = filled-all (v .small) (w .closing) (λ k. none-left k _ _) in
-        let r = rows-next (v .fuel) end (p .start .0) (v .inside) (v .enough) in
-        let last = dayForm marks all (record { start = p .start .0; end = p .end .0 }) in
-        let days = page-put v (subst (λ (l : List ℕ). Put now (p .at) (encode (day (totalsOf (p .start .0) (p .end .0) l))) 100 now1 at1) e x) in
-        let none = rows-none (r .0) end (p .end .0) (omega arith) in
-        let same = next-same v (r .0) (r .1) ∙ ap (λ (l : List Part). (v .done ++ (last ∷ [])) ++ map (dayForm marks all) l) none ∙ append-nil (v .done ++ (last ∷ [])) in
-        let closing = tally (totalsOf start end (rowTotals marks start end all)) in
+        let g : Put room 0 (encodeAll days) at1 now1 at1 =
+        rw same (page-put v (subst (λ (l : List ℕ). Put now (p .at) (encode (day (totalsOf (p .start .0) (p .end .0) l))) 100 now1 at1) e x)) in
         let z = subst (λ (l : List ℕ). Put now1 at1 (encode (tally (totalsOf start end l))) 100 now2 at2) f y in
-        let c = encode-append (map (dayForm marks all) (rowsOf start end)) (closing ∷ []) in
-        let o = one-form closing in
-        let g : Put room 0 (encodeAll (map (dayForm marks all) (rowsOf start end))) at1 now1 at1 = rw same days in
-        let b = page-behind v in
-        let k = w .page .put .kept in
-        rw (c, ← o) (also at2 g z (z .behind) (omega (arith, z .behind, x .behind, b, k)))
+        let c = encode-append days (closingOf all start end ∷ []) in
+        let o = one-form (closingOf all start end) in
+        rw (c, ← o) (also at2 g z (z .behind) (omega (arith, z .behind, x .behind, page-behind v, v .put .kept)))
 
 -- ---- the start
 

@@ -13,7 +13,7 @@ use Rattle.venue.specs.Filled.{Ready}
 use Rattle.spans.specs.Spans.{Span, joined}
 use Rattle.day.specs.Days.{venueBy}
 use Rattle.events.specs.Happenings.{found, eventsIn as spanEvents}
-use Rattle.walk.specs.Walking.{ruleOf, pointOf, behind, Fits, Begun, Comes}
+use Rattle.walk.specs.Walking.{ruleOf, pointOf, behind, Fits, Begun}
 use Rattle.walk.specs.Looking.{LeadsOn}
 use Rattle.walk.specs.declared.Walk.{Walk}
 use Rattle.walk.specs.declared.Piece.{Piece}
@@ -56,8 +56,8 @@ module _ (s : List ℕ) (first : ℕ) (ats offsets rules events : List ℕ) (hi 
 
   -- ---- a piece comes
 
-  abbrev pub Coming : Walk → Piece → List ℕ → Type 0
-  Coming w q a = Comes s z (venueBy z g) hi w q a
+  abbrev Coming : Walk → Piece → List ℕ → Type 0
+  Coming = Walked.Coming s first ats offsets rules events hi
 
   -- one that fits, and its span is written behind the others or joins the last
   pub record Taken (room : List ℕ) (at : ℕ) (target now : List ℕ) (stand : ℕ) (head : Phase) (place : ℕ) (q : Piece) (joining : Bool) : Type 0 where

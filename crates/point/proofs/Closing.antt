@@ -36,11 +36,13 @@ number-book s n e = sym (ap (λ (b : Bool). cond b (cond (inside instants n) 0 1
 number-by : (s : List ℕ) (n : ℤ) → refusal base s ≡ 0 → (b : Bool) → inside instants n ≡ b → cond b 0 10 ≡ pointNumber s n
 unfolding pointNumber
 number-by s n z b e =
-    sym (ap (λ (q : Bool). cond q (cond (inside instants n) 0 10) (refusal base s)) (eq-eqb (refusal base s) 0 z) ∙ ap (λ (q : Bool). cond q 0 10) e)
+    sym
+    (ap (λ (q : Bool). cond q (cond (inside instants n) 0 10) (refusal base s)) (eq-eqb (refusal base s) 0 z) ∙ ap (λ (q : Bool). cond q 0 10) e)
 
 -- ---- what is told is document 01's answer
 
-told-is : {s : List ℕ} {h : Header} (k : Known s h) (n : ℤ) → instantNumber (instantOf n) ≡ n → (v : Values) → v ≡ valuesOf (records s) (k .covered)
+told-is : {s : List ℕ} {h : Header} (k : Known s h) (n : ℤ) → instantNumber (instantOf n) ≡ n → (v : Values)
+    → v ≡ valuesOf (records s) (k .covered)
     → told v (Between (h .start) (h .end)) (instantOf n) ≡ pointForms s n
 told-is {s} {h} k n q v e =
     ap₂ (λ (x : Values) (y : Header). told x (Between (y .start) (y .end)) (instantOf n)) e (k .header)
@@ -54,31 +56,37 @@ told-is {s} {h} k n q v e =
         → toldHeld (valuesOf (records s) c) (Between (record { 0 = instantOf (c .start) }) (record { 0 = instantOf (c .end) })) (instantOf n) o
         ≡ byPoint (valuesOf (records s) c) c n o
     go none =
-        ap₂ (λ (x : ℤ) (y : Cover). point (record { at = x; coverage = some y }) ∷ []) q (ap₂ (λ (x y : ℤ). record { start = x; end = y }) (start-number k) (end-number k))
+        ap₂ (λ (x : ℤ) (y : Cover). point (record { at = x; coverage = some y }) ∷ []) q
+        (ap₂ (λ (x y : ℤ). record { start = x; end = y }) (start-number k) (end-number k))
     go (some x) = refl
 
 -- ---- the cases
 
 module _ (s : List ℕ) (n : ℤ) {room : List ℕ} {r : Reply} where
   -- the book is refused
-  pub close-refused : (m : ℕ) → Refused m ≡ opened s → r ≡ record { number = m; length = 0 } → Lent (pointNumber s n) (pointAnswer s n) room room r
+  pub close-refused : (m : ℕ) → Refused m ≡ opened s → r ≡ record { number = m; length = 0 }
+      → Lent (pointNumber s n) (pointAnswer s n) room room r
   close-refused m e q =
       let o = opened-refused s m e in
       lent-same (lent-reply (lent-refused (pointAnswer s n) room (λ z. o .1 (sym (o .0) ∙ z))) q) (o .0 ∙ number-book s n (o .1)) refl
 
   -- the instant is out of range
-  pub close-outside : refusal base s ≡ 0 → inside instants n ≡ false → r ≡ record { number = 10; length = 0 } → Lent (pointNumber s n) (pointAnswer s n) room room r
+  pub close-outside : refusal base s ≡ 0 → inside instants n ≡ false → r ≡ record { number = 10; length = 0 }
+      → Lent (pointNumber s n) (pointAnswer s n) room room r
   close-outside z i q = lent-same (lent-reply (lent-refused (pointAnswer s n) room (λ y. omega arith)) q) (number-by s n z false i) refl
 
   module _ {left : List ℕ} {t : ℕ} (i : (t ≡ instantOf n) × (inside instants n ≡ true)) where
     -- a venue without data
-    pub close-empty : Empty ≡ opened s → Lent 0 (encode (point (missingOf t Nothing))) room left r → Lent (pointNumber s n) (pointAnswer s n) room left r
+    pub close-empty : Empty ≡ opened s → Lent 0 (encode (point (missingOf t Nothing))) room left r
+        → Lent (pointNumber s n) (pointAnswer s n) room left r
     unfolding pointAnswer
     close-empty o w =
         let c = opened-empty s o in
         let m : instantNumber t ≡ n = ap instantNumber (i .0) ∙ number-back n (i .1) in
         lent-same w (number-by s n (c .0) true (i .1))
-        (one-form (point (missingOf t Nothing)) ∙ ap (λ (x : ℤ). encodeAll (missingForms x none)) m ∙ sym (ap (λ (x : Option _). encodeAll (byCoverage (records s) n x)) (c .1)))
+        (one-form (point (missingOf t Nothing))
+        ∙ ap (λ (x : ℤ). encodeAll (missingForms x none)) m
+        ∙ sym (ap (λ (x : Option _). encodeAll (byCoverage (records s) n x)) (c .1)))
 
     -- a venue
     pub close-venue : {h : Header} (k : Known s h) (v : Values) → v ≡ valuesOf (records s) (k .covered)

@@ -30,9 +30,11 @@ laid-append : (fs gs : List Field) → laid (fs ++ gs) ≡ laid fs ++ laid gs
 unfolding laid
 laid-append [] gs = refl
 laid-append (f ∷ fs) gs =
-    ap (λ (l : List ℕ). bytes (f .width) (f .value) ++ l) (laid-append fs gs) ∙ sym (append-assoc (bytes (f .width) (f .value)) (laid fs) (laid gs))
+    let v = bytes (f .width) (f .value) in
+    ap (λ (l : List ℕ). v ++ l) (laid-append fs gs) ∙ sym (append-assoc v (laid fs) (laid gs))
 
-one-field : (fs : List Field) (f : Field) (gs : List Field) (after : List ℕ) → f .value < 256 ^ f .width → field (f .width) (laid (fs ++ (f ∷ gs)) ++ after) (span fs) ≡ f .value
+one-field : (fs : List Field) (f : Field) (gs : List Field) (after : List ℕ) → f .value < 256 ^ f .width
+    → field (f .width) (laid (fs ++ (f ∷ gs)) ++ after) (span fs) ≡ f .value
 unfolding laid
 one-field fs f gs after h =
     let v = bytes (f .width) (f .value) in
@@ -63,7 +65,8 @@ module _ (p : Forms.Phase) (after : List ℕ) where
     known-evidence : number evidencePlace known 0 ≡ p .evidence
     unfolding encode
     known-evidence =
-        one-field (before ++ (put phasePlace (p .phase) ∷ put Forms.codePlace (p .code) ∷ put Forms.labelPlace (p .label) ∷ [])) (put evidencePlace (p .evidence)) _ after b
+        let between = put phasePlace (p .phase) ∷ put Forms.codePlace (p .code) ∷ put Forms.labelPlace (p .label) ∷ [] in
+        one-field (before ++ between) (put evidencePlace (p .evidence)) _ after b
 
     pub known-said : pointSaid known ≡ some (phase (p .phase) (p .evidence))
     unfolding pointSaid
@@ -74,12 +77,14 @@ module _ (p : Forms.Phase) (after : List ℕ) where
 missing-said : (m : Missing) (after : List ℕ) → pointSaid (encode (Forms.point m) ++ after) ≡ none
 unfolding pointSaid encode
 missing-said m after =
-    let k : number kind (encode (Forms.point m) ++ after) 0 ≡ 19 = one-field (put size 27 ∷ []) (put kind 19) (fieldsOf (Forms.point m)) after (omega arith) in
+    let k : number kind (encode (Forms.point m) ++ after) 0 ≡ 19 =
+    one-field (put size 27 ∷ []) (put kind 19) (fieldsOf (Forms.point m)) after (omega arith) in
     rw k refl
 
 -- ---- a known point of an accepted book fits its fields
 
-pub held-narrow : (s : List ℕ) → Bytes s → refusal base s ≡ 0 → (c : Coverage) (t : ℕ) (h : Held) → pointOf (valuesOf (records s) c) t ≡ some h
+pub held-narrow : (s : List ℕ) → Bytes s → refusal base s ≡ 0 → (c : Coverage) (t : ℕ) (h : Held)
+    → pointOf (valuesOf (records s) c) t ≡ some h
     → (h .phase < 2 ^ 8) × (h .rule .evidence < 2 ^ 16)
 held-narrow s b e c t h q =
     let v = valuesOf (records s) c in
@@ -99,6 +104,7 @@ unfolding pointAnswer encodeAll
 point-said s b e c q n =
     ap (λ (o : Option Coverage). pointSaid (encodeAll (byCoverage (records s) n o))) q ∙ go (pointOf (valuesOf (records s) c) (instantOf n)) refl
   where
-    go : (o : Option Held) → pointOf (valuesOf (records s) c) (instantOf n) ≡ o → pointSaid (encodeAll (byPoint (valuesOf (records s) c) c n o)) ≡ pointMark o
+    go : (o : Option Held) → pointOf (valuesOf (records s) c) (instantOf n) ≡ o
+        → pointSaid (encodeAll (byPoint (valuesOf (records s) c) c n o)) ≡ pointMark o
     go none i = missing-said _ []
     go (some h) i = let f = held-narrow s b e c (instantOf n) h i in known-said _ _ (f .0) (f .1)

@@ -1,11 +1,12 @@
 -- The cases of a tally query come together: each leaves what document 01 says. Assumes nothing.
 use mathlib.Core.Path.{_≡_, refl, sym, ap, ap₂, subst, _∙_}
-use mathlib.Core.Bool.{Bool, cond}
+use mathlib.Core.Bool.{Bool, true, false, cond}
 use mathlib.Core.List.{List}
 use mathlib.Core.Option.{Option, none}
 use Prim.Native.Nat.{ℕ, _+_, _-_, _*_, _≤_, _<_}
 use native.Mathlib.Omega.{arith}
 use borrow.Author.Tests.{eq-eqb, ne-eqb, lt-ltb, le-ltb}
+use lib.Dec.{eqb}
 use lib.IntN.{ℤ}
 use lib.ListN.{length}
 use Rattle.wire.specs.Fields.{Put}
@@ -17,7 +18,7 @@ use Rattle.venue.specs.declared.opened.Header.{Header}
 use Rattle.venue.proofs.Laws.{good-coverage}
 use Rattle.venue.proofs.Known.{Known}
 use Rattle.spans.specs.Spans.{Mark, Span}
-use Rattle.spans.specs.Timeline.{blank}
+use Rattle.spans.specs.Timeline.{Part, blank}
 use Rattle.day.specs.Days.{Values, valuesOf}
 use Rattle.query.specs.Judging.{windowOf, windowNumber, judgedBy}
 use Rattle.query.specs.declared.Judged.the-variants.{Refused}
@@ -38,37 +39,41 @@ use Rattle.tally.proofs.Raw.{raw-total, blank-total, same-forms}
 
 -- ---- a window that is too long, too little room, the answer
 
+abbrev written : List (Span Mark) → ℕ → ℕ → List ℕ
+written all start end = encodeAll (rawForms all start end)
+
 short-enough : (start end : ℕ) → end - start ≤ mostNs → tooLong start end ≡ 0
 short-enough start end h = simp (le-ltb mostNs (end - start) h)
 
 module _ (all : List (Span Mark)) (start end : ℕ) {room : List ℕ} {r : Reply} where
-  pub tally-long : mostNs < end - start → r ≡ record { number = 13; length = 0 } → Lent (tooLong start end) (encodeAll (rawForms all start end)) room room r
+  pub tally-long : mostNs < end - start → r ≡ record { number = 13; length = 0 } → Lent (tooLong start end) (written all start end) room room r
   tally-long h q =
       let e = lt-ltb mostNs (end - start) h in
-      rw e (lent-reply (lent-refused (encodeAll (rawForms all start end)) room (λ z. omega arith)) q)
+      rw e (lent-reply (lent-refused (written all start end) room (λ z. omega arith)) q)
 
-  module _ (h : end - start ≤ mostNs) where
-    pub tally-short : {n : ℕ} → n ≡ 100 * (length (rowsOf start end) + 1) → length room < n → r ≡ record { number = 16; length = 0 }
-        → Lent (tooLong start end) (encodeAll (rawForms all start end)) room room r
-    tally-short e l q = lent-reply (lent-short (encodeAll (rawForms all start end)) room (short-enough start end h) (omega (arith, e, forms-long all start end))) q
+  module _ (h : end - start ≤ mostNs) {n : ℕ} (e : n ≡ 100 * (length (rowsOf start end) + 1)) where
+    pub tally-short : length room < n → r ≡ record { number = 16; length = 0 } → Lent (tooLong start end) (written all start end) room room r
+    tally-short l q = lent-reply (lent-short (written all start end) room (short-enough start end h) (omega (arith, e, forms-long all start end))) q
 
-    pub tally-written : {n : ℕ} → n ≡ 100 * (length (rowsOf start end) + 1) → n ≤ length room → {left : List ℕ} {m : ℕ}
-        → Put room 0 (encodeAll (rawForms all start end)) m left m → r ≡ record { number = 0; length = m } → Lent (tooLong start end) (encodeAll (rawForms all start end)) room left r
-    tally-written e l p q =
-        lent-reply (lent-written (encodeAll (rawForms all start end)) room (short-enough start end h) (omega (arith, e, forms-long all start end)) (p .same) (sym (p .many))) q
+    pub tally-written : n ≤ length room → {left : List ℕ} {m : ℕ} → Put room 0 (written all start end) m left m → r ≡ record { number = 0; length = m }
+        → Lent (tooLong start end) (written all start end) room left r
+    tally-written l p q =
+        lent-reply
+        (lent-written (written all start end) room (short-enough start end h) (omega (arith, e, forms-long all start end)) (p .same) (sym (p .many)))
+        q
 
 -- ---- the number
 
 module _ (s : List ℕ) (m n : ℤ) where
-  of-window : (windowNumber s m n ≡ 0 → ⊥) → windowNumber s m n ≡ tallyNumber s m n
+  by-window : (b : Bool) → eqb (windowNumber s m n) 0 ≡ b → cond b (tooLong (instantOf m) (instantOf n)) (windowNumber s m n) ≡ tallyNumber s m n
   unfolding tallyNumber
-  of-window f = sym (ap (λ (b : Bool). cond b (tooLong (instantOf m) (instantOf n)) (windowNumber s m n)) (ne-eqb (windowNumber s m n) 0 f))
+  by-window b e = sym (ap (λ (b : Bool). cond b (tooLong (instantOf m) (instantOf n)) (windowNumber s m n)) e)
+
+  of-window : (windowNumber s m n ≡ 0 → ⊥) → windowNumber s m n ≡ tallyNumber s m n
+  of-window f = by-window false (ne-eqb (windowNumber s m n) 0 f)
 
   of-length : windowNumber s m n ≡ 0 → {a b : Instant} → Windowed m n a b → tooLong (a .0) (b .0) ≡ tallyNumber s m n
-  unfolding tallyNumber
-  of-length z i =
-      ap₂ tooLong (i .start) (i .end)
-      ∙ sym (ap (λ (b : Bool). cond b (tooLong (instantOf m) (instantOf n)) (windowNumber s m n)) (eq-eqb (windowNumber s m n) 0 z))
+  of-length z i = ap₂ tooLong (i .start) (i .end) ∙ by-window true (eq-eqb (windowNumber s m n) 0 z)
 
 -- ---- the cases
 
@@ -85,30 +90,33 @@ module _ (s : List ℕ) (m n : ℤ) {room : List ℕ} {r : Reply} where
 
   module _ {left : List ℕ} {a b : Instant} where
     -- a venue without data
-    pub close-empty : Blanked s m n a b → Lent (tooLong (a .0) (b .0)) (encodeAll (rawForms (rawBlank (a .0) (b .0)) (a .0) (b .0))) room left r
+    pub close-empty : Blanked s m n a b → Lent (tooLong (a .0) (b .0)) (written (rawBlank (a .0) (b .0)) (a .0) (b .0)) room left r
         → Lent (tallyNumber s m n) (tallyAnswer s m n) room left r
     unfolding tallyAnswer
     close-empty j w =
         let x = instantOf m in
         let y = instantOf n in
+        let window : Part = record { start = x; end = y } in
         lent-same w (of-length s m n (j .passed) (j .window))
-        (ap₂ (λ (u v : ℕ). encodeAll (rawForms (rawBlank u v) u v)) (j .window .start) (j .window .end)
-        ∙ ap encodeAll (same-forms marks segments (rawBlank x y) (blank none (record { start = x; end = y })) (blank-total x y) x y)
-        ∙ sym (ap (λ (u : Option Coverage). encodeAll (formsBy segments (segmentsBy (records s) (record { start = x; end = y }) u) x y)) (j .uncovered)))
+        (ap₂ (λ (u v : ℕ). written (rawBlank u v) u v) (j .window .start) (j .window .end)
+        ∙ ap encodeAll (same-forms marks segments (rawBlank x y) (blank none window) (blank-total x y) x y)
+        ∙ sym (ap (λ (u : Option Coverage). encodeAll (formsBy segments (segmentsBy (records s) window u) x y)) (j .uncovered)))
 
     -- a venue
     pub close-venue : {h : Header} (j : Named s m n h a b) (v : Values) → v ≡ valuesOf (records s) (j .known .covered)
-        → Lent (tooLong (a .0) (b .0)) (encodeAll (rawForms (rawOf v (a .0) (b .0)) (a .0) (b .0))) room left r → Lent (tallyNumber s m n) (tallyAnswer s m n) room left r
+        → Lent (tooLong (a .0) (b .0)) (written (rawOf v (a .0) (b .0)) (a .0) (b .0)) room left r → Lent (tallyNumber s m n) (tallyAnswer s m n) room left r
     unfolding tallyAnswer
     close-venue {h} j v q w =
         let k = j .known in
         let i = j .window in
         let x = instantOf m in
         let y = instantOf n in
+        let window : Part = record { start = x; end = y } in
         let g = valuesOf (records s) (k .covered) in
         let before : x < y = let p = i .start in let o = i .end in let d = i .order in omega arith in
+        let covers = good-coverage s (k .accepted) (k .covered) (k .is) .order in
         lent-same w (of-length s m n (j .passed) i)
-        (ap (λ (u : Values). encodeAll (rawForms (rawOf u (a .0) (b .0)) (a .0) (b .0))) q
-        ∙ ap₂ (λ (u o : ℕ). encodeAll (rawForms (rawOf g u o) u o)) (i .start) (i .end)
-        ∙ ap encodeAll (same-forms marks segments (rawOf g x y) (timelineOf g (record { start = x; end = y })) (raw-total g x y (good-coverage s (k .accepted) (k .covered) (k .is) .order) before) x y)
-        ∙ sym (ap (λ (u : Option Coverage). encodeAll (formsBy segments (segmentsBy (records s) (record { start = x; end = y }) u) x y)) (k .is)))
+        (ap (λ (u : Values). written (rawOf u (a .0) (b .0)) (a .0) (b .0)) q
+        ∙ ap₂ (λ (u o : ℕ). written (rawOf g u o) u o) (i .start) (i .end)
+        ∙ ap encodeAll (same-forms marks segments (rawOf g x y) (timelineOf g window) (raw-total g x y covers before) x y)
+        ∙ sym (ap (λ (u : Option Coverage). encodeAll (formsBy segments (segmentsBy (records s) window u) x y)) (k .is)))

@@ -1,7 +1,6 @@
 -- The pass over a window's stretches: they are in order, and each piece of the walk is the next of them. Assumes nothing.
 use mathlib.Core.Path.{_≡_, refl, sym, ap, subst, _∙_}
 use mathlib.Core.List.{List, [], _∷_, _++_, map}
-use mathlib.Core.Option.{Option}
 use Prim.Native.Nat.{ℕ, _+_, _*_, _≤_, _<_, min, max}
 use native.Mathlib.Omega.{arith}
 use native.Mathlib.Decide.{decLe}
@@ -9,9 +8,9 @@ use lib.ListN.{length}
 use Rattle.wire.specs.Fields.{Inside, Put}
 use Rattle.zone.specs.Zone.{Zone, zoneOf}
 use Rattle.zone.specs.Answers.{Valid}
-use Rattle.records.specs.Records.{Rule, ruleAt}
+use Rattle.records.specs.Records.{ruleAt}
 use Rattle.spans.specs.Spans.{Mark, phase, unknown, Span, Within}
-use Rattle.spans.specs.Timeline.{turns, walk}
+use Rattle.spans.specs.Timeline.{Venue, turns, walk}
 use Rattle.spans.proofs.Lists.{ordered}
 use Rattle.spans.proofs.Walking.{walk-within, walk-none}
 use Rattle.day.specs.Governing.{governing}
@@ -30,7 +29,7 @@ use Rattle.walk.proofs.Looking.{looked-shown, looked-comes}
 use Rattle.answer.specs.Forms.{encodeAll}
 use Rattle.pages.specs.Rows.{rowsOf}
 use Rattle.pages.specs.Pages.{stretchOf, rawForms, Slot, Ahead, Ordered, Standing, Coming, Counted, Ending, Ended, First}
-use Rattle.tally.specs.Private.{heldMark, rawBlank, rawOf, walked, AllCounted}
+use Rattle.tally.specs.Private.{heldMark, rawBlank, rawOf, walked, AllComing, AllCounted}
 use Rattle.pages.specs.declared.Page.{Page}
 use Rattle.pages.proofs.Paging.{unknown-slot, first-standing}
 
@@ -97,135 +96,182 @@ blank-first {start} {end} h fits f = first-standing (rawBlank start end) h (blan
 
 -- ---- the walk's pieces
 
-module _ (s : List ℕ) (first : ℕ) (ats offsets rules : List ℕ) (hi : ℕ) where
-  abbrev pub z : Zone
-  z = zoneOf first ats offsets
+pub stands-on : {s : List ℕ} {zone : Zone} {w w′ : Walk} → w′ ≡ w → {a : List ℕ} → Stands s zone w a → Stands s zone w′ a
+stands-on {s} {zone} e {a} h = subst (λ (x : Walk). Stands s zone x a) (sym e) h
 
-  abbrev pub g : ℕ → Option Rule
-  g = governing (map (ruleAt s) rules)
+abbrev markOf : List ℕ → Piece → Mark
+markOf s q = phase (pointOf s q (q .point) .phase) (ruleOf s q .evidence)
+
+module _ (s : List ℕ) (first : ℕ) (ats offsets rules : List ℕ) (hi : ℕ) where
+  abbrev zone : Zone
+  zone = zoneOf first ats offsets
+
+  abbrev venue : Venue Held
+  venue = venueBy zone (governing (map (ruleAt s) rules))
 
   abbrev pub pieces : Walk → List (Span Mark)
-  pieces w = map heldMark (rest s z (venueBy z g) hi w)
+  pieces w = map heldMark (rest s zone venue hi w)
 
-  pub stands-on : {w w′ : Walk} → w′ ≡ w → {a : List ℕ} → Stands s z w a → Stands s z w′ a
-  stands-on e {a} h = subst (λ (x : Walk). Stands s z x a) (sym e) h
-
-  -- a piece comes first, and where a turn leads
+  -- a piece comes first
   abbrev pub ComesFirst : Walk → Piece → List ℕ → Type 0
-  ComesFirst w q a = Comes s z (venueBy z g) hi w q a
-
-  -- a step: a piece of the date at hand, or the next turn
-  module _ (good : Valid first ats offsets) (w : Walk) (p : Pulled) (a : List ℕ) (h : Stands s z w a) (l : Looked s a hi w p) where
-    pub come : {q : Piece} → p ≡ Next q → Comes s z (venueBy z g) hi w q a
-    come e = looked-comes first ats offsets good s (venueBy z g) hi w a h (subst (Looked s a hi w) e l)
-
-    pub shown : p ≡ Done → Shown s z hi w
-    shown e = looked-shown first ats offsets good s (venueBy z g) hi w a h (subst (Looked s a hi w) e l)
-
-  module _ (w : Walk) (t : Turned) (a : List ℕ) (l : Leads s z (venueBy z g) hi w t a) where
-    pub gone : t ≡ Turned·Done → pieces w ≡ []
-    gone e = ap (map heldMark) (subst (λ (x : Turned). Leads s z (venueBy z g) hi w x a) e l)
-
-    pub turned : {w′ : Walk} → t ≡ On w′ → LeadsOn s z (venueBy z g) hi w w′ a
-    turned e = subst (λ (x : Turned). Leads s z (venueBy z g) hi w x a) e l
-
-  abbrev pub markOf : Piece → Mark
-  markOf q = phase (pointOf s q (q .point) .phase) (ruleOf s q .evidence)
-
-  come-first : {w : Walk} {q : Piece} {a : List ℕ} → Comes s z (venueBy z g) hi w q a → pieces w ≡ stretchOf (q .from .0) (q .to .0) (markOf q) ∷ pieces (behind q)
-  come-first c = ap (map heldMark) (c .first)
-
-  pub pieces-begun : {lo : ℕ} {w : Walk} {a : List ℕ} → Begun s z (venueBy z g) 3659 lo w a → pieces w ≡ map heldMark (walk (venueBy z g) hi turns lo)
-  pieces-begun b = ap (map heldMark) (b .all hi)
-
-  pub walk-standing : {lo : ℕ} {w : Walk} {a : List ℕ} → Begun s z (venueBy z g) 3659 lo w a
-      → (last : List (Span Mark)) {start end : ℕ} {all : List (Span Mark)} {room now : List ℕ} {p : Page} {row whole : List ℕ}
-      → Standing all (walked s first ats offsets rules lo hi ++ last) start end room now p row whole → Standing all (pieces w ++ last) start end room now p row whole
-  walk-standing b last {start} {end} {all} {room} {now} {p} {row} {whole} x =
-      subst (λ (l : List (Span Mark)). Standing all (l ++ last) start end room now p row whole) (sym (pieces-begun b)) x
+  ComesFirst w q a = Comes s zone venue hi w q a
 
   -- pieces are counted while the walk goes on
   pub record Walked (start end : ℕ) (w : Walk) (now : List ℕ) (p : Page) (row whole : List ℕ) (w′ : Walk) (now′ : List ℕ) (p′ : Page) (row′ whole′ : List ℕ) : Type 0 where
-    pub on : (all last : List (Span Mark)) (room : List ℕ) → Standing all (pieces w ++ last) start end room now p row whole → Standing all (pieces w′ ++ last) start end room now′ p′ row′ whole′
+    pub on : (all last : List (Span Mark)) (room : List ℕ) → Standing all (pieces w ++ last) start end room now p row whole
+        → Standing all (pieces w′ ++ last) start end room now′ p′ row′ whole′
     pub kept : length now′ ≡ length now
 
-  pub walked-none : (start end : ℕ) (w : Walk) (now : List ℕ) (p : Page) (row whole : List ℕ) → Walked start end w now p row whole w now p row whole
-  walked-none start end w now p row whole = record { on = λ all last room x. x; kept = refl }
+  -- a step: a piece of the date at hand, or the next turn
+  module _ (good : Valid first ats offsets) {w : Walk} {p : Pulled} {a : List ℕ} (h : Stands s zone w a) (l : Looked s a hi w p) where
+    pub come : {q : Piece} → p ≡ Next q → ComesFirst w q a
+    come e = looked-comes first ats offsets good s venue hi w a h (subst (Looked s a hi w) e l)
 
-  module _ {start end : ℕ} {w : Walk} {now : List ℕ} {p : Page} {row whole : List ℕ} {w1 : Walk} {now1 : List ℕ} {p1 : Page} {row1 whole1 : List ℕ}
-      (r : Walked start end w now p row whole w1 now1 p1 row1 whole1) where
-    module _ {q : Piece} {a : List ℕ} (c : Comes s z (venueBy z g) hi w1 q a) {j : ℕ} (e : (j ≡ pointOf s q (q .point) .phase) × (j ≤ 7)) where
-      is : Slot (markOf q) j
-      is = record { is = e .0; low = omega (arith, e .0, e .1) }
+    pub shown : p ≡ Done → Shown s zone hi w
+    shown e = looked-shown first ats offsets good s venue hi w a h (subst (Looked s a hi w) e l)
 
-      piece-standing : (all last : List (Span Mark)) (room : List ℕ) → Standing all (pieces w ++ last) start end room now p row whole
-          → Standing all (stretchOf (q .from .0) (q .to .0) (markOf q) ∷ (pieces (behind q) ++ last)) start end room now1 p1 row1 whole1
-      piece-standing all last room x = subst (λ (l : List (Span Mark)). Standing all (l ++ last) start end room now1 p1 row1 whole1) (come-first c) (r .on all last room x)
+  come-first : {w : Walk} {q : Piece} {a : List ℕ} → ComesFirst w q a → pieces w ≡ stretchOf (q .from .0) (q .to .0) (markOf s q) ∷ pieces (behind q)
+  come-first c = ap (map heldMark) (c .first)
 
-      pub walked-coming : (all last : List (Span Mark)) (room : List ℕ) → Standing all (pieces w ++ last) start end room now p row whole
-          → Coming now1 p1 start end (q .from .0) (q .to .0) j row1 whole1
-      walked-coming all last room x =
-          record { all = all; left = pieces (behind q) ++ last; room = room; mark = markOf q; is = is; stands = piece-standing all last room x }
+  module _ {start end : ℕ} where
+    walk-standing : {lo : ℕ} {w : Walk} {a : List ℕ} → Begun s zone venue 3659 lo w a
+        → {all : List (Span Mark)} (last : List (Span Mark)) {room now : List ℕ} {p : Page} {row whole : List ℕ}
+        → Standing all (walked s first ats offsets rules lo hi ++ last) start end room now p row whole → Standing all (pieces w ++ last) start end room now p row whole
+    walk-standing b {all} last {room} {now} {p} {row} {whole} x =
+        subst (λ (l : List (Span Mark)). Standing all (l ++ last) start end room now p row whole) (sym (ap (map heldMark) (b .all hi))) x
 
-      pub walked-next : {now2 : List ℕ} {p2 : Page} {row2 whole2 : List ℕ} → Counted now1 p1 start end (q .from .0) (q .to .0) j row1 whole1 now2 p2 row2 whole2 → {w2 : Walk} → w2 ≡ behind q
-          → Walked start end w now p row whole w2 now2 p2 row2 whole2
-      walked-next {now2} {p2} {row2} {whole2} k {w2} i =
-          record {
-            on = λ all last room x.
-                subst (λ (y : Walk). Standing all (pieces y ++ last) start end room now2 p2 row2 whole2) (sym i)
-                (k .on all (pieces (behind q) ++ last) room (markOf q) is (piece-standing all last room x));
-            kept = k .kept ∙ r .kept;
-          }
+    pub walked-none : {w : Walk} {now : List ℕ} {p : Page} {row whole : List ℕ} → Walked start end w now p row whole w now p row whole
+    walked-none = record { on = λ all last room x. x; kept = refl }
 
-      pub walked-less : {w2 : Walk} → w2 ≡ behind q → length (pieces w2) + w2 .turns < length (pieces w1) + w1 .turns
-      walked-less i =
-          let l = ap length (come-first c) in
-          let m = ap (λ (x : Walk). length (pieces x)) i in
-          let n : _ ≡ q .turns = ap (λ (x : Walk). x .turns) i in
-          omega (arith, l, m, n, c .turns)
+    module _ {w : Walk} {now : List ℕ} {p : Page} {row whole : List ℕ} {w1 : Walk} {now1 : List ℕ} {p1 : Page} {row1 whole1 : List ℕ}
+        (r : Walked start end w now p row whole w1 now1 p1 row1 whole1) where
+      -- a piece comes
+      module _ {q : Piece} {a : List ℕ} (c : ComesFirst w1 q a) {j : ℕ} (e : (j ≡ pointOf s q (q .point) .phase) × (j ≤ 7)) where
+        is : Slot (markOf s q) j
+        is = record { is = e .0; low = omega (arith, e .0, e .1) }
 
-    module _ {w2 : Walk} {a : List ℕ} (l : LeadsOn s z (venueBy z g) hi w1 w2 a) where
-      turn-pieces : pieces w1 ≡ pieces w2
-      turn-pieces = ap (map heldMark) (l .same)
+        piece-standing : (all last : List (Span Mark)) (room : List ℕ) → Standing all (pieces w ++ last) start end room now p row whole
+            → Standing all (stretchOf (q .from .0) (q .to .0) (markOf s q) ∷ (pieces (behind q) ++ last)) start end room now1 p1 row1 whole1
+        piece-standing all last room x =
+            subst (λ (l : List (Span Mark)). Standing all (l ++ last) start end room now1 p1 row1 whole1) (come-first c) (r .on all last room x)
 
-      pub turn-walked : Walked start end w now p row whole w2 now1 p1 row1 whole1
-      turn-walked =
-          record {
-            on = λ all last room x. subst (λ (y : List (Span Mark)). Standing all (y ++ last) start end room now1 p1 row1 whole1) turn-pieces (r .on all last room x);
-            kept = r .kept;
-          }
+        pub walked-coming : {lo : ℕ} {a′ : List ℕ} → Begun s zone venue 3659 lo w a′ → AllComing (walked s first ats offsets rules lo hi) now p start end row whole
+            → Coming now1 p1 start end (q .from .0) (q .to .0) j row1 whole1
+        walked-coming b x =
+            record {
+              all = x .all;
+              left = pieces (behind q) ++ x .last;
+              room = x .room;
+              mark = markOf s q;
+              is = is;
+              stands = piece-standing (x .all) (x .last) (x .room) (walk-standing b (x .last) (x .stands));
+            }
 
-      pub turn-less : length (pieces w2) + w2 .turns < length (pieces w1) + w1 .turns
-      turn-less = let m = ap length turn-pieces in omega (arith, m, l .fewer)
+        -- and is counted
+        module _ {w2 : Walk} (i : w2 ≡ behind q) where
+          pub walked-next : {now2 : List ℕ} {p2 : Page} {row2 whole2 : List ℕ}
+              → Counted now1 p1 start end (q .from .0) (q .to .0) j row1 whole1 now2 p2 row2 whole2
+              → Walked start end w now p row whole w2 now2 p2 row2 whole2
+          walked-next {now2} {p2} {row2} {whole2} k =
+              record {
+                on = λ all last room x.
+                    subst (λ (y : Walk). Standing all (pieces y ++ last) start end room now2 p2 row2 whole2) (sym i)
+                    (k .on all (pieces (behind q) ++ last) room (markOf s q) is (piece-standing all last room x));
+                kept = k .kept ∙ r .kept;
+              }
 
-    -- the walk is done: all its pieces are counted
-    pub walk-counted : {lo : ℕ} {a : List ℕ} → Begun s z (venueBy z g) 3659 lo w a → pieces w1 ≡ [] → AllCounted (walked s first ats offsets rules lo hi) now p start end row whole now1 p1 row1 whole1
-    walk-counted {lo} {a} b done =
-        record {
-          on = λ all last room x. subst (λ (l : List (Span Mark)). Standing all (l ++ last) start end room now1 p1 row1 whole1) done (r .on all last room (walk-standing b last x));
-          kept = r .kept;
-        }
+          pub walked-less : length (pieces w2) + w2 .turns < length (pieces w1) + w1 .turns
+          walked-less =
+              let l = ap length (come-first c) in
+              let m = ap (λ (x : Walk). length (pieces x)) i in
+              let n : _ ≡ q .turns = ap (λ (x : Walk). x .turns) i in
+              omega (arith, l, m, n, c .turns)
+
+      -- the walk turns, or is done and all its pieces are counted
+      module _ (t : Turned) (a : List ℕ) (l : Leads s zone venue hi w1 t a) where
+        module _ {w2 : Walk} (e : t ≡ On w2) where
+          pub turned : LeadsOn s zone venue hi w1 w2 a
+          turned = subst (λ (x : Turned). Leads s zone venue hi w1 x a) e l
+
+          turn-pieces : pieces w1 ≡ pieces w2
+          turn-pieces = ap (map heldMark) (turned .same)
+
+          pub turn-walked : Walked start end w now p row whole w2 now1 p1 row1 whole1
+          turn-walked =
+              record {
+                on = λ all last room x.
+                    subst (λ (y : List (Span Mark)). Standing all (y ++ last) start end room now1 p1 row1 whole1) turn-pieces (r .on all last room x);
+                kept = r .kept;
+              }
+
+          pub turn-less : length (pieces w2) + w2 .turns < length (pieces w1) + w1 .turns
+          turn-less = let m = ap length turn-pieces in omega (arith, m, turned .fewer)
+
+        pub walk-counted : t ≡ Turned·Done → {lo : ℕ} {a′ : List ℕ} → Begun s zone venue 3659 lo w a′
+            → AllCounted (walked s first ats offsets rules lo hi) now p start end row whole now1 p1 row1 whole1
+        walk-counted e b =
+            let done = ap (map heldMark) (subst (λ (x : Turned). Leads s zone venue hi w1 x a) e l) in
+            record {
+              on = λ all last room x.
+                  subst (λ (y : List (Span Mark)). Standing all (y ++ last) start end room now1 p1 row1 whole1) done (r .on all last room (walk-standing b last x));
+              kept = r .kept;
+            }
 
 -- ---- a venue: the first stretch, and what is then left
 
 module _ (s : List ℕ) (h : Header) (ats offsets rules events : List ℕ) where
-  abbrev pub values : Values
+  abbrev values : Values
   values = valuesAt s h ats offsets rules events
 
-  module _ {start end : ℕ} (room : List ℕ) (covers : h .start .0 < h .end .0) (lt : start < end) (fits : Inside 0 (100 * (length (rowsOf start end) + 1)) room)
-      {p : Page} {row whole : List ℕ} (f : First start end p row whole) {before : ℕ} (b : before ≡ min end (h .start .0)) where
-    abbrev behindFirst : List (Span Mark)
-    behindFirst =
-        map heldMark (walk (venueOf values) (min end (h .end .0)) turns (max start (h .start .0))) ++ (stretchOf (max start (h .end .0)) end unknown ∷ [])
+  -- the stretches behind the first
+  abbrev behindFirst : ℕ → ℕ → List (Span Mark)
+  behindFirst start end =
+      map heldMark (walk (venueOf values) (min end (h .end .0)) turns (max start (h .start .0))) ++ (stretchOf (max start (h .end .0)) end unknown ∷ [])
 
-    venue-first : Standing (rawOf values start end) (stretchOf start before unknown ∷ behindFirst) start end room room p row whole
-    venue-first = rw b (first-standing (rawOf values start end) lt (raw-ordered values start end covers lt) (omega (arith, fits)) f)
+  -- the page is open, and it is known where the walk begins and ends
+  pub record Opens (start end : ℕ) (room : List ℕ) (p : Page) (row whole : List ℕ) (before lo hi after : ℕ) : Type 0 where
+    pub covers : h .start .0 < h .end .0
+    pub order : start < end
+    pub fits : Inside 0 (100 * (length (rowsOf start end) + 1)) room
+    pub first : First start end p row whole
+    pub before-is : before ≡ min end (h .start .0)
+    pub lo-is : lo ≡ max start (h .start .0)
+    pub hi-is : hi ≡ min end (h .end .0)
+    pub after-is : after ≡ max start (h .end .0)
+
+  module _ {start end : ℕ} {room : List ℕ} {p : Page} {row whole : List ℕ} {before lo hi after : ℕ}
+      (o : Opens start end room p row whole before lo hi after) where
+    venue-first : Standing (rawOf values start end) (stretchOf start before unknown ∷ behindFirst start end) start end room room p row whole
+    venue-first =
+        let fits = o .fits in
+        let e = o .before-is in
+        rw e (first-standing (rawOf values start end) (o .order) (raw-ordered values start end (o .covers) (o .order)) (omega (arith, fits)) (o .first))
 
     pub venue-coming : Coming room p start end start before 8 row whole
-    venue-coming = record { all = rawOf values start end; left = behindFirst; room = room; mark = unknown; is = unknown-slot; stands = venue-first }
+    venue-coming =
+        record {
+          all = rawOf values start end;
+          left = behindFirst start end;
+          room = room;
+          mark = unknown;
+          is = unknown-slot;
+          stands = venue-first;
+        }
 
-    -- then the walk comes, and the last stretch
-    pub venue-standing : {now1 : List ℕ} {p1 : Page} {row1 whole1 : List ℕ} → Counted room p start end start before 8 row whole now1 p1 row1 whole1
-        → {lo hi after : ℕ} → lo ≡ max start (h .start .0) → hi ≡ min end (h .end .0) → after ≡ max start (h .end .0)
-        → Standing (rawOf values start end) (walked s (h .first) ats offsets rules lo hi ++ (stretchOf after end unknown ∷ [])) start end room now1 p1 row1 whole1
-    venue-standing k l i e = rw (l, i, e) (k .on (rawOf values start end) behindFirst room unknown unknown-slot venue-first)
+    -- then the walk comes
+    module _ {now1 : List ℕ} {p1 : Page} {row1 whole1 : List ℕ} (k : Counted room p start end start before 8 row whole now1 p1 row1 whole1) where
+      walk-coming : Standing (rawOf values start end) (walked s (h .first) ats offsets rules lo hi ++ (stretchOf after end unknown ∷ [])) start end room now1 p1 row1 whole1
+      walk-coming =
+          let l = o .lo-is in
+          let i = o .hi-is in
+          let e = o .after-is in
+          rw (l, i, e) (k .on (rawOf values start end) (behindFirst start end) room unknown unknown-slot venue-first)
+
+      pub venue-all-coming : AllComing (walked s (h .first) ats offsets rules lo hi) now1 p1 start end row1 whole1
+      venue-all-coming = record { all = rawOf values start end; last = stretchOf after end unknown ∷ []; room = room; stands = walk-coming }
+
+      -- and the last stretch
+      pub venue-walked : {now2 : List ℕ} {p2 : Page} {row2 whole2 : List ℕ}
+          → AllCounted (walked s (h .first) ats offsets rules lo hi) now1 p1 start end row1 whole1 now2 p2 row2 whole2
+          → Standing (rawOf values start end) (stretchOf after end unknown ∷ []) start end room now2 p2 row2 whole2
+      venue-walked w = w .on (rawOf values start end) (stretchOf after end unknown ∷ []) room walk-coming

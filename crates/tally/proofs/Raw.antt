@@ -9,7 +9,7 @@ use native.Mathlib.Decide.{decLe}
 use borrow.Author.Tests.{ltb-false}
 use lib.Dec.{ltb}
 use Rattle.spans.specs.Spans.{Mark, phase, unknown, Span, Body, keep, look, joined, Within}
-use Rattle.spans.specs.Timeline.{Part, turns, walk, unjoined, timeline, blank}
+use Rattle.spans.specs.Timeline.{Venue, Part, turns, walk, unjoined, timeline, blank}
 use Rattle.spans.specs.Totals.{isPhase, isUnknown, anyMark, total, shows}
 use Rattle.spans.proofs.Joining.{joined-within, joined-look}
 use Rattle.spans.proofs.Mapping.{onSpans, walk-map}
@@ -78,16 +78,20 @@ module _ (v : Values) where
   abbrev showsHeld : Held → Option Shown
   showsHeld h = some (shown (v .zone) (v .events) h)
 
+  abbrev venue : Venue (Option Shown)
+  venue = showing (v .zone) (v .governing) (v .events)
+
   held-total : (k : Mark → Bool) (x y : ℕ) (ss : List (Span Held)) → total marks k x y (map heldMark ss) ≡ total segments k x y (onSpans showsHeld ss)
   unfolding total
   held-total k x y [] = refl
-  held-total k x y (s ∷ ss) = ap (λ (n : ℕ). cond (k (phase (s .body .phase) (s .body .rule .evidence))) (min y (s .to) - max x (s .from)) 0 + n) (held-total k x y ss)
+  held-total k x y (s ∷ ss) =
+      ap (λ (n : ℕ). cond (k (phase (s .body .phase) (s .body .rule .evidence))) (min y (s .to) - max x (s .from)) 0 + n) (held-total k x y ss)
 
   module _ (start end : ℕ) (covers : v .coverage .start < v .coverage .end) (h : start < end) where
     abbrev window : Part
     window = record { start = start; end = end }
 
-    raw-unjoined : (k : Mark → Bool) (x y : ℕ) → total marks k x y (rawOf v start end) ≡ total segments k x y (unjoined (showing (v .zone) (v .governing) (v .events)) none (v .coverage) window)
+    raw-unjoined : (k : Mark → Bool) (x y : ℕ) → total marks k x y (rawOf v start end) ≡ total segments k x y (unjoined venue none (v .coverage) window)
     unfolding unjoined total
     raw-unjoined k x y =
         let lo = max start (v .coverage .start) in
@@ -95,10 +99,10 @@ module _ (v : Values) where
         let before = min end (v .coverage .start) in
         let after = max start (v .coverage .end) in
         let ws = walk (venueOf v) hi turns lo in
-        let rest : List (Span (Option Shown)) = walk (showing (v .zone) (v .governing) (v .events)) hi turns lo ++ keep after end none [] in
+        let rest : List (Span (Option Shown)) = walk venue hi turns lo ++ keep after end none [] in
         let last : List (Span Mark) = stretchOf after end unknown ∷ [] in
         let a = keep-total segments k x y start before none rest in
-        let b = append-total segments k x y (walk (showing (v .zone) (v .governing) (v .events)) hi turns lo) (keep after end none []) in
+        let b = append-total segments k x y (walk venue hi turns lo) (keep after end none []) in
         let c = keep-total segments k x y after end none [] in
         let d = append-total marks k x y (map heldMark ws) last in
         let e = held-total k x y ws ∙ ap (total segments k x y) (walk-map showsHeld (venueBy (v .zone) (v .governing)) hi turns lo) in
@@ -110,9 +114,8 @@ module _ (v : Values) where
     pub raw-total : (k : Mark → Bool) (x y : ℕ) → total marks k x y (rawOf v start end) ≡ total segments k x y (timelineOf v window)
     unfolding timeline
     raw-total k x y =
-        let ss = unjoined (showing (v .zone) (v .governing) (v .events)) none (v .coverage) window in
-        raw-unjoined k x y
-        ∙ sym (joined-total segments merges start end ss (unjoined-within (showing (v .zone) (v .governing) (v .events)) none (v .coverage) window covers h) k x y)
+        let ss = unjoined venue none (v .coverage) window in
+        raw-unjoined k x y ∙ sym (joined-total segments merges start end ss (unjoined-within venue none (v .coverage) window covers h) k x y)
 
 pub blank-total : (start end : ℕ) (k : Mark → Bool) (x y : ℕ) → total marks k x y (rawBlank start end) ≡ total segments k x y (blank none (record { start = start; end = end }))
 unfolding blank total
@@ -123,17 +126,8 @@ blank-total start end k x y = sym (keep-total segments k x y start end none [])
 module _ {A C : Type 0} (B : Body A) (D : Body C) (ss : List (Span A)) (ts : List (Span C)) (same : (k : Mark → Bool) (x y : ℕ) → total B k x y ss ≡ total D k x y ts) where
   pub same-totals : (x y : ℕ) → rowTotals B x y ss ≡ rowTotals D x y ts
   same-totals x y =
-      let p0 = same (isPhase 0) x y in
-      let p1 = same (isPhase 1) x y in
-      let p2 = same (isPhase 2) x y in
-      let p3 = same (isPhase 3) x y in
-      let p4 = same (isPhase 4) x y in
-      let p5 = same (isPhase 5) x y in
-      let p6 = same (isPhase 6) x y in
-      let p7 = same (isPhase 7) x y in
-      let u = same isUnknown x y in
-      let n = same anyMark x y in
-      rw (p0, p1, p2, p3, p4, p5, p6, p7, u, n)
+      let p : (i : ℕ) → total B (isPhase i) x y ss ≡ total D (isPhase i) x y ts = λ i. same (isPhase i) x y in
+      rw (p 0, p 1, p 2, p 3, p 4, p 5, p 6, p 7, same isUnknown x y, same anyMark x y)
 
   same-days : (rs : List Part) → map (dayForm B ss) rs ≡ map (dayForm D ts) rs
   same-days [] = refl

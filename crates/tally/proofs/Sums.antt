@@ -84,50 +84,56 @@ rows-add F add (suc n) end at h e = go (ltb at end) refl (rows-add F add n end (
 -- ---- a list of spans in order
 
 module _ {A : Type 0} (B : Body A) (lo hi : ℕ) (ss : List (Span A)) (w : Within lo hi ss) where
-  by-count : (k : Mark → Bool) (a b : ℕ) → a ≤ b → total B k a b ss ≡ count (λ t. shows k (look (B .mark) ss t)) a (b - a)
-  by-count k a b h = let e : a + (b - a) ≡ b = omega arith in subst (λ (x : ℕ). total B k a x ss ≡ count (λ t. shows k (look (B .mark) ss t)) a (b - a)) e (total-count B k a (b - a) lo hi ss w)
+  -- whether the list shows such a mark at an instant
+  abbrev showsAt : (Mark → Bool) → ℕ → Bool
+  showsAt k t = shows k (look (B .mark) ss t)
+
+  by-count : (k : Mark → Bool) (a b : ℕ) → a ≤ b → total B k a b ss ≡ count (showsAt k) a (b - a)
+  by-count k a b h =
+      let e : a + (b - a) ≡ b = omega arith in
+      subst (λ (x : ℕ). total B k a x ss ≡ count (showsAt k) a (b - a)) e (total-count B k a (b - a) lo hi ss w)
 
   pub total-small : (k : Mark → Bool) (a b : ℕ) → total B k a b ss ≤ b - a
   total-small k a b = go (decLe a b)
     where
       go : Dec (a ≤ b) → total B k a b ss ≤ b - a
-      go (yes h) = omega (arith, by-count k a b h, count-most (λ t. shows k (look (B .mark) ss t)) a (b - a))
+      go (yes h) = omega (arith, by-count k a b h, count-most (showsAt k) a (b - a))
       go (no h) = omega (arith, backwards B k a b ss (omega arith))
 
   pub two-rows : (k : Mark → Bool) (a b c : ℕ) → a ≤ b → b ≤ c → total B k a b ss + total B k b c ss ≡ total B k a c ss
   two-rows k a b c h i =
-      let P : ℕ → Bool = λ t. shows k (look (B .mark) ss t) in
-      let x = by-count k a b h in
-      let y = by-count k b c i in
-      let z = by-count k a c (omega arith) in
       let m : (b - a) + (c - b) ≡ c - a = omega arith in
       let n : a + (b - a) ≡ b = omega arith in
-      let s = count-append P a (b - a) (c - b) in
-      let t = ap (count P a) m in
-      let u = ap (λ (j : ℕ). count P j (c - b)) n in
-      omega (arith, x, y, z, s, t, u)
+      let s = count-append (showsAt k) a (b - a) (c - b) in
+      let t = ap (count (showsAt k) a) m in
+      let u = ap (λ (j : ℕ). count (showsAt k) j (c - b)) n in
+      omega (arith, by-count k a b h, by-count k b c i, by-count k a c (omega arith), s, t, u)
 
-  two-holes : (a b c : ℕ) → a ≤ b → b ≤ c
-      → ((b - a) - total B anyMark a b ss) + ((c - b) - total B anyMark b c ss) ≡ (c - a) - total B anyMark a c ss
-  two-holes a b c h i = go (total B anyMark a b ss) (total B anyMark b c ss) (total B anyMark a c ss) (total-small anyMark a b) (total-small anyMark b c) (two-rows anyMark a b c h i)
-    where
-      go : (x y z : ℕ) → x ≤ b - a → y ≤ c - b → x + y ≡ z → ((b - a) - x) + ((c - b) - y) ≡ (c - a) - z
-      go x y z p q r = omega arith
+  -- what shows no mark
+  abbrev holes : ℕ → ℕ → ℕ
+  holes a b = (b - a) - total B anyMark a b ss
+
+  two-holes : (a b c : ℕ) → a ≤ b → b ≤ c → holes a b + holes b c ≡ holes a c
+  two-holes a b c h i = omega (arith, total-small anyMark a b, total-small anyMark b c, two-rows anyMark a b c h i)
 
   -- the rows' totals add up to the closing totals
-  pub rows-total : (k : Mark → Bool) (start end : ℕ) → start ≤ end → sumOver (λ (r : Part). total B k (r .start) (r .end) ss) (rowsOf start end) ≡ total B k start end ss
+  pub rows-total : (k : Mark → Bool) (start end : ℕ) → start ≤ end
+      → sumOver (λ (r : Part). total B k (r .start) (r .end) ss) (rowsOf start end) ≡ total B k start end ss
   rows-total k start end h = rows-add (λ (a b : ℕ). total B k a b ss) (two-rows k) ((end - start) / dayNs + 1) end start h (omega arith)
 
-  pub rows-hole : (start end : ℕ) → start ≤ end
-      → sumOver (λ (r : Part). (r .end - r .start) - total B anyMark (r .start) (r .end) ss) (rowsOf start end) ≡ (end - start) - total B anyMark start end ss
-  rows-hole start end h = rows-add (λ (a b : ℕ). (b - a) - total B anyMark a b ss) two-holes ((end - start) / dayNs + 1) end start h (omega arith)
+  pub rows-hole : (start end : ℕ) → start ≤ end → sumOver (λ (r : Part). holes (r .start) (r .end)) (rowsOf start end) ≡ holes start end
+  rows-hole start end h = rows-add holes two-holes ((end - start) / dayNs + 1) end start h (omega arith)
 
 -- ---- the ten totals of a row
 
+-- a number for each kind of mark
+abbrev byKind : ((Mark → Bool) → ℕ) → ℕ
+byKind f =
+    f (isPhase 0)
+    + (f (isPhase 1) + (f (isPhase 2) + (f (isPhase 3) + (f (isPhase 4) + (f (isPhase 5) + (f (isPhase 6) + (f (isPhase 7) + f isUnknown)))))))
+
 -- a mark is of one kind
-one-kind : (m : Mark) → Low m → (n : ℕ)
-    → cond (isPhase 0 m) n 0 + (cond (isPhase 1 m) n 0 + (cond (isPhase 2 m) n 0 + (cond (isPhase 3 m) n 0 + (cond (isPhase 4 m) n 0 + (cond (isPhase 5 m) n 0
-    + (cond (isPhase 6 m) n 0 + (cond (isPhase 7 m) n 0 + cond (isUnknown m) n 0))))))) ≡ n
+one-kind : (m : Mark) → Low m → (n : ℕ) → byKind (λ k. cond (k m) n 0) ≡ n
 one-kind unknown h n = omega arith
 one-kind (phase zero e) h n = omega arith
 one-kind (phase (suc zero) e) h n = omega arith
@@ -140,15 +146,16 @@ one-kind (phase (suc (suc (suc (suc (suc (suc (suc zero))))))) e) h n = omega ar
 one-kind (phase (suc (suc (suc (suc (suc (suc (suc (suc p)))))))) e) h n = absurd (omega arith)
 
 module _ {A : Type 0} (B : Body A) (a b : ℕ) where
-  all-kinds : (ss : List (Span A)) → Bodies (λ (x : A). Low (B .mark x)) ss
-      → total B (isPhase 0) a b ss + (total B (isPhase 1) a b ss + (total B (isPhase 2) a b ss + (total B (isPhase 3) a b ss + (total B (isPhase 4) a b ss + (total B (isPhase 5) a b ss
-      + (total B (isPhase 6) a b ss + (total B (isPhase 7) a b ss + total B isUnknown a b ss))))))) ≡ total B anyMark a b ss
+  all-kinds : (ss : List (Span A)) → Bodies (λ (x : A). Low (B .mark x)) ss → byKind (λ k. total B k a b ss) ≡ total B anyMark a b ss
   unfolding total
   all-kinds [] l = refl
-  all-kinds (s ∷ ss) l = let on = all-kinds ss (l .1) in let one = one-kind (B .mark (s .body)) (l .0) (min b (s .to) - max a (s .from)) in omega arith
+  all-kinds (s ∷ ss) l =
+      let on = all-kinds ss (l .1) in
+      let one = one-kind (B .mark (s .body)) (l .0) (min b (s .to) - max a (s .from)) in
+      omega arith
 
   pub row-adds-up : (lo hi : ℕ) (ss : List (Span A)) → Within lo hi ss → Bodies (λ (x : A). Low (B .mark x)) ss → sum (rowTotals B a b ss) ≡ b - a
-  row-adds-up lo hi ss w l = let e = all-kinds ss l in let f = total-small B lo hi ss w anyMark a b in omega (arith, e, f)
+  row-adds-up lo hi ss w l = omega (arith, all-kinds ss l, total-small B lo hi ss w anyMark a b)
 
 -- ---- for every accepted book and every accepted window
 
@@ -156,27 +163,34 @@ low-shown : (x : Option Shown) → Shows rowMost x → Low (markOf x)
 low-shown none g = tt
 low-shown (some x) g = omega (arith, g .phase)
 
-low-all : (ss : List (Span (Option Shown))) → Bodies (Shows rowMost) ss → Bodies (λ (x : Option Shown). Low (markOf x)) ss
+abbrev Lows : List (Span (Option Shown)) → Type 0
+Lows ss = Bodies (λ (x : Option Shown). Low (markOf x)) ss
+
+low-all : (ss : List (Span (Option Shown))) → Bodies (Shows rowMost) ss → Lows ss
 low-all [] g = tt
 low-all (s ∷ ss) g = (low-shown (s .body) (g .0), low-all ss (g .1))
 
 pub record Sums (tl : List (Span (Option Shown))) (start end : ℕ) : Type 0 where
   pub each : (a b : ℕ) → sum (rowTotals segments a b tl) ≡ b - a
   pub rows : (k : Mark → Bool) → sumOver (λ (r : Part). total segments k (r .start) (r .end) tl) (rowsOf start end) ≡ total segments k start end tl
-  pub holes : sumOver (λ (r : Part). (r .end - r .start) - total segments anyMark (r .start) (r .end) tl) (rowsOf start end) ≡ (end - start) - total segments anyMark start end tl
+  pub holes :
+      sumOver (λ (r : Part). (r .end - r .start) - total segments anyMark (r .start) (r .end) tl) (rowsOf start end) ≡ (end - start) - total segments anyMark start end tl
   pub small : (k : Mark → Bool) (a b : ℕ) → total segments k a b tl ≤ b - a
 
 module _ (s : List ℕ) (b : Bytes s) (m n : ℤ) (accepted : refusal base s ≡ 0) (passes : windowRefusal m n ≡ 0) where
-  abbrev tl : List (Span (Option Shown))
-  tl = segmentsBy (records s) (record { start = instantOf m; end = instantOf n }) (coverageOf (records s))
+  abbrev window : Part
+  window = record { start = instantOf m; end = instantOf n }
 
-  lows : Bodies (λ (x : Option Shown). Low (markOf x)) tl
+  abbrev tl : List (Span (Option Shown))
+  tl = segmentsBy (records s) window (coverageOf (records s))
+
+  lows : Lows tl
   unfolding blank
   lows = go (coverageOf (records s)) refl
     where
-      go : (o : Option Coverage) → coverageOf (records s) ≡ o → Bodies (λ (x : Option Shown). Low (markOf x)) (segmentsBy (records s) (record { start = instantOf m; end = instantOf n }) o)
+      go : (o : Option Coverage) → coverageOf (records s) ≡ o → Lows (segmentsBy (records s) window o)
       go none e = bodies-keep (λ (x : Option Shown). Low (markOf x)) (instantOf m) (instantOf n) none [] tt tt
-      go (some c) e = low-all (timelineOf (valuesOf (records s) c) (record { start = instantOf m; end = instantOf n })) (segments-good s b accepted c e (record { start = instantOf m; end = instantOf n }))
+      go (some c) e = low-all (timelineOf (valuesOf (records s) c) window) (segments-good s b accepted c e window)
 
   pub tally-sums : Sums tl (instantOf m) (instantOf n)
   tally-sums =

@@ -1,7 +1,7 @@
 -- Events written from the arrays that keep them. Assumes nothing.
 use mathlib.Core.Path.{_≡_, refl, sym, ap, ap₂, subst, _∙_}
-use mathlib.Core.List.{List, [], map}
-use Prim.Native.Nat.{ℕ, zero, suc, _+_, _-_, _*_, _≤_, _<_}
+use mathlib.Core.List.{List, map}
+use Prim.Native.Nat.{ℕ, _+_, _-_, _*_, _≤_, _<_}
 use native.Mathlib.Omega.{arith}
 use native.Mathlib.Decide.{decLt}
 use lib.ListN.{length, getD}
@@ -13,18 +13,12 @@ use Rattle.events.specs.Happenings.{byInstant}
 use Rattle.events.specs.Seeking.{inTurn}
 use Rattle.events.specs.Keeping.{listed, bestAt, keptAt, keptOf, Next}
 use Rattle.events.specs.declared.Occurrence.{Occurrence}
-use Rattle.events.specs.declared.Best.the-variants.{None}
 use Rattle.events.proofs.Choosing.{best-some, best-none, listed-length}
 use Rattle.events.proofs.Collecting.{Holds}
 use Rattle.answer.specs.Forms.{Form, event, encode, encodeAll}
 use Rattle.answer.specs.Meaning.{eventOf}
 use Rattle.tell.specs.Shown.{eventForm}
-use Rattle.tell.proofs.Trailing.{Trailing, trail-start, trail-room, trail-one, trail-end}
-
-no-turn : (os : List Occurrence) (m : ℕ) → inTurn os m None ≡ []
-unfolding inTurn
-no-turn os zero = refl
-no-turn os (suc m) = refl
+use Rattle.tell.proofs.Trailing.{no-turn, Trailing, trail-start, trail-room, trail-one, trail-end}
 
 -- what is read of an event, as its record
 kept-form : (book : List ℕ) (t p : ℕ) {u : Uncertainty} {code evidence : ℕ} → u ≡ published (eventAt book p .uncertainty) → code ≡ eventAt book p .code → evidence ≡ eventAt book p .evidence
@@ -51,7 +45,8 @@ module _ (book when which : List ℕ) (n : ℕ) (room : List ℕ) (at : ℕ) whe
         go : Dec (next < n) → next < n
         go (yes l) = l
         go (no l) =
-            let none = ap length (ap (inTurn (listed o 0 n) (length (listed o 0 n) - i)) (best-none o n next (omega arith)) ∙ no-turn (listed o 0 n) (length (listed o 0 n) - i)) in
+            let os = listed o 0 n in
+            let none = ap length (ap (inTurn os (length os - i)) (best-none o n next (omega arith)) ∙ no-turn os (length os - i)) in
             absurd (omega (arith, w .trailing .left, none, listed-length o 0 n))
 
     here : i < n → i < length (listed o 0 n)

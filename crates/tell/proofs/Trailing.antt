@@ -65,6 +65,12 @@ put-none room at e = rw e (record { same = sym (wrote-nothing room at); behind =
 
 -- ---- what is left
 
+-- nothing, where there is no best
+pub no-turn : (os : List Occurrence) (n : ℕ) → inTurn os n None ≡ []
+unfolding inTurn
+no-turn os zero = refl
+no-turn os (suc n) = refl
+
 module _ (os : List Occurrence) (room : List ℕ) (at : ℕ) where
   pub record Trailing (now : List ℕ) (place i : ℕ) (best : Best) : Type 0 where
     pub below : Below best (length os)
@@ -104,12 +110,7 @@ module _ (os : List Occurrence) (room : List ℕ) (at : ℕ) where
     trail-end h = let z : length os - i ≡ 0 = omega arith in over (ap (λ (n : ℕ). inTurn os n best) z)
 
     pub trail-none : best ≡ None → Put room at (encodeAll (map eventForm (byInstant os))) (35 * length os) now place
-    unfolding inTurn
-    trail-none e = over (ap (inTurn os (length os - i)) e ∙ go (length os - i))
-      where
-        go : (n : ℕ) → inTurn os n None ≡ []
-        go zero = refl
-        go (suc n) = refl
+    trail-none e = over (ap (inTurn os (length os - i)) e ∙ no-turn os (length os - i))
 
     module _ (h : i < length os) (o : Occurrence) (index : ℕ) (e : best ≡ Some o index) where
       abbrev next : Best

@@ -61,23 +61,22 @@ every-append : {A : Type 0} (P : A → Type 0) (xs ys : List A) → Every P xs �
 every-append P [] ys a b = b
 every-append P (x ∷ xs) ys a b = (a .0, every-append P xs ys (a .1) b)
 
+-- what holds of both branches holds of the one taken
+either-way : {A : Type 0} (P : A → Type 0) (q : Bool) {x y : A} → P x → P y → P (cond q x y)
+either-way P true h i = h
+either-way P false h i = i
+
 -- each body of spans
 abbrev pub Bodies : {A : Type 0} → (A → Type 0) → List (Span A) → Type 0
-Bodies P [] = Unit {0}
-Bodies P (s ∷ ss) = P (s .body) × Bodies P ss
+Bodies {A} P ss = Every (λ (s : Span A). P (s .body)) ss
 
 module _ {A : Type 0} (P : A → Type 0) where
   bodies-append : (xs ys : List (Span A)) → Bodies P xs → Bodies P ys → Bodies P (xs ++ ys)
-  bodies-append [] ys a b = b
-  bodies-append (x ∷ xs) ys a b = (a .0, bodies-append xs ys (a .1) b)
+  bodies-append = every-append (λ (s : Span A). P (s .body))
 
   pub bodies-keep : (a b : ℕ) (x : A) (rest : List (Span A)) → P x → Bodies P rest → Bodies P (keep a b x rest)
   unfolding keep
-  bodies-keep a b x rest p e = go (ltb a b)
-    where
-      go : (q : Bool) → Bodies P (cond q (record { from = a; to = b; body = x } ∷ rest) rest)
-      go true = (p, e)
-      go false = e
+  bodies-keep a b x rest p e = either-way (Bodies P) (ltb a b) (p, e) e
 
   bodies-clip : (lo hi : ℕ) (ss : List (Span A)) → Bodies P ss → Bodies P (clip lo hi ss)
   unfolding clip
@@ -87,17 +86,14 @@ module _ {A : Type 0} (P : A → Type 0) where
 -- joining adds what its spans count
 module _ {A : Type 0} (B : Body A) (P : ℕ → A → Type 0) (more : (m n : ℕ) (a : A) → m ≤ n → P m a → P n a)
     (merges : (m n : ℕ) (a b : A) → P m a → P n b → P (m + n) (B .merge a b)) where
-  from-bodies : (m n : ℕ) (s : Span A) (ss : List (Span A)) → P m (s .body) → Bodies (P spanMost) ss → m + spanMost * length ss ≤ n → Bodies (P n) (joinFrom B s ss)
+  from-bodies : (m n : ℕ) (s : Span A) (ss : List (Span A)) → P m (s .body) → Bodies (P spanMost) ss → m + spanMost * length ss ≤ n
+      → Bodies (P n) (joinFrom B s ss)
   unfolding joinFrom
   from-bodies m n s [] p e h = (more m n (s .body) (omega arith) p, tt)
   from-bodies m n s (r ∷ rs) p e h =
-      go (joins B s r) (from-bodies (m + spanMost) n (joinedSpan B s r) rs (merges m spanMost (s .body) (r .body) p (e .0)) (e .1) (omega arith))
-      (from-bodies spanMost n r rs (e .0) (e .1) (omega arith))
-    where
-      go : (q : Bool) → Bodies (P n) (joinFrom B (joinedSpan B s r) rs) → Bodies (P n) (joinFrom B r rs)
-          → Bodies (P n) (cond q (joinFrom B (joinedSpan B s r) rs) (s ∷ joinFrom B r rs))
-      go true x y = x
-      go false x y = (more m n (s .body) (omega arith) p, y)
+      either-way (Bodies (P n)) (joins B s r)
+      (from-bodies (m + spanMost) n (joinedSpan B s r) rs (merges m spanMost (s .body) (r .body) p (e .0)) (e .1) (omega arith))
+      (more m n (s .body) (omega arith) p, from-bodies spanMost n r rs (e .0) (e .1) (omega arith))
 
   joined-bodies : (n : ℕ) (ss : List (Span A)) → Bodies (P spanMost) ss → spanMost * length ss ≤ n → Bodies (P n) (joined B ss)
   unfolding joined
@@ -116,7 +112,8 @@ published-used u f h = go (eqb (u .tag) 0) (eqb (u .tag) 1) (eqb (u .tag) 2)
     n : ℕ
     n = since 0 (u .nanoseconds)
 
-    go : (a b c : Bool) → UsedUncertainty (cond a Exact (cond b (PublishedGranularity n) (cond c (PublishedBound n (u .text)) (ProcessStart (u .text)))))
+    go : (a b c : Bool)
+        → UsedUncertainty (cond a Exact (cond b (PublishedGranularity n) (cond c (PublishedBound n (u .text)) (ProcessStart (u .text)))))
     go true b c = tt
     go false true c = since-small (u .nanoseconds) f
     go false false true = (since-small (u .nanoseconds) f, h)
@@ -125,14 +122,10 @@ published-used u f h = go (eqb (u .tag) 0) (eqb (u .tag) 1) (eqb (u .tag) 2)
 widest-used : (a b : Uncertainty) → UsedUncertainty a → UsedUncertainty b → UsedUncertainty (widestOf a b)
 widest-used a b h i = go (width a) (width b)
   where
-    by : (q : Bool) → UsedUncertainty (cond q a b)
-    by true = h
-    by false = i
-
     go : (v w : Option ℕ) → UsedUncertainty (wider v w a b)
     go none w = h
     go (some x) none = i
-    go (some x) (some y) = by (leb y x)
+    go (some x) (some y) = either-way UsedUncertainty (leb y x) h i
 
 -- ---- a good rule and a good event, whose numbers fit
 
@@ -229,32 +222,33 @@ module _ (first : ℕ) (ats os : List ℕ) (ok : Valid first ats os) where
     occurrence-used d e x f =
         record {
           code = f .numbers .code;
-          boundary = record { at = taken-in first ats os ok (readingAt d x) .1; uncertainty = uncertain-used (readingAt d x) (published (e .uncertainty)) (f .uncertainty) };
+          boundary = record {
+            at = taken-in first ats os ok (readingAt d x) .1;
+            uncertainty = uncertain-used (readingAt d x) (published (e .uncertainty)) (f .uncertainty);
+          };
           evidence = f .numbers .evidence;
         }
 
     times-used : (d : ℕ) (e : Event) (xs : List ℕ) → EventFits e → Every Used (onTimes z from to d e xs)
     unfolding onTimes
     times-used d e [] f = tt
-    times-used d e (x ∷ xs) f = go (happens from to (occurrence z d e x)) (times-used d e xs f)
-      where
-        go : (q : Bool) → Every Used (onTimes z from to d e xs) → Every Used (cond q (occurrence z d e x ∷ onTimes z from to d e xs) (onTimes z from to d e xs))
-        go true h = (occurrence-used d e x f, h)
-        go false h = h
+    times-used d e (x ∷ xs) f =
+        let rest = times-used d e xs f in
+        either-way (Every Used) (happens from to (occurrence z d e x)) (occurrence-used d e x f, rest) rest
 
     date-used : (d : ℕ) (es : List Event) → Every EventFits es → Every Used (onDate z from to d es)
     unfolding onDate
     date-used d [] f = tt
-    date-used d (e ∷ es) f = go (leb (dayOf (e .first)) d && leb d (dayOf (e .last))) (date-used d es (f .1))
-      where
-        go : (q : Bool) → Every Used (onDate z from to d es) → Every Used (cond q (onTimes z from to d e (e .times) ++ onDate z from to d es) (onDate z from to d es))
-        go true h = every-append Used (onTimes z from to d e (e .times)) (onDate z from to d es) (times-used d e (e .times) (f .0)) h
-        go false h = h
+    date-used d (e ∷ es) f =
+        let rest = date-used d es (f .1) in
+        either-way (Every Used) (leb (dayOf (e .first)) d && leb d (dayOf (e .last)))
+        (every-append Used (onTimes z from to d e (e .times)) (onDate z from to d es) (times-used d e (e .times) (f .0)) rest) rest
 
     dates-used : (es : List Event) → Every EventFits es → (d n : ℕ) → Every Used (onDates z from to es d n)
     unfolding onDates
     dates-used es f d zero = tt
-    dates-used es f d (suc n) = every-append Used (onDate z from to d es) (onDates z from to es (suc d) n) (date-used d es f) (dates-used es f (suc d) n)
+    dates-used es f d (suc n) =
+        every-append Used (onDate z from to d es) (onDates z from to es (suc d) n) (date-used d es f) (dates-used es f (suc d) n)
 
     found-used : (es : List Event) → Every EventFits es → Every Used (found z es from to)
     unfolding found
@@ -263,11 +257,7 @@ module _ (first : ℕ) (ats os : List ℕ) (ok : Valid first ats os) where
 insert-used : (o : Occurrence) (os : List Occurrence) → Used o → Every Used os → Every Used (insert o os)
 unfolding insert
 insert-used o [] h e = (h, tt)
-insert-used o (p ∷ ps) h e = go (leb (o .boundary .at .0) (p .boundary .at .0)) (insert-used o ps h (e .1))
-  where
-    go : (q : Bool) → Every Used (insert o ps) → Every Used (cond q (o ∷ p ∷ ps) (p ∷ insert o ps))
-    go true i = (h, e)
-    go false i = (e .0, i)
+insert-used o (p ∷ ps) h e = either-way (Every Used) (leb (o .boundary .at .0) (p .boundary .at .0)) (h, e) (e .0, insert-used o ps h (e .1))
 
 sorted-used : (os : List Occurrence) → Every Used os → Every Used (byInstant os)
 unfolding byInstant
@@ -276,8 +266,10 @@ sorted-used (o ∷ os) e = insert-used o (byInstant os) (e .0) (sorted-used os (
 
 -- ---- a walk
 
-module _ (first : ℕ) (ats os : List ℕ) (ok : Valid first ats os) (g : ℕ → Option Rule) (fits : (d : ℕ) (r : Rule) → g d ≡ some r → RuleFits r) (es : List Event)
-    (all : Every EventFits es) (rare : (from to : ℕ) → to ≤ from + (dayNs + mostNs + mostNs) → length (found (zoneOf first ats os) es from to) ≤ spanMost) where
+module _ (first : ℕ) (ats os : List ℕ) (ok : Valid first ats os)
+    (g : ℕ → Option Rule) (fits : (d : ℕ) (r : Rule) → g d ≡ some r → RuleFits r)
+    (es : List Event) (all : Every EventFits es)
+    (rare : (from to : ℕ) → to ≤ from + (dayNs + mostNs + mostNs) → length (found (zoneOf first ats os) es from to) ≤ spanMost) where
   abbrev zone : Zone
   zone = zoneOf first ats os
 
@@ -306,7 +298,8 @@ module _ (first : ℕ) (ats os : List ℕ) (ok : Valid first ats os) (g : ℕ �
   next-date d = (omega arith, omega arith)
 
   -- what is converted on it, and the next midnight
-  conv-by : (d e x : ℕ) → (opens d ≤ nearestReading (readingAt e x)) × (nearestReading (readingAt e x) ≤ opens d + dayNs) → On d (v .conv e x)
+  conv-by : (d e x : ℕ) → (opens d ≤ nearestReading (readingAt e x)) × (nearestReading (readingAt e x) ≤ opens d + dayNs)
+      → On d (v .conv e x)
   conv-by d e x h =
       let y = nearestReading (readingAt e x) in
       let n = taken-near first ats os ok y (omega arith) in
@@ -325,7 +318,8 @@ module _ (first : ℕ) (ats os : List ℕ) (ok : Valid first ats os) (g : ℕ �
   first-on d a h = subst (On d) (omega arith) h
 
   -- what is shown between two boundaries of a date
-  body-good : (r : Rule) → RuleFits r → (d : ℕ) (s e : Edge) (p : ℕ) → On d (s .at) → On d (e .at) → p ≤ 7 → Shows spanMost (v .body r s p e)
+  body-good : (r : Rule) → RuleFits r → (d : ℕ) (s e : Edge) (p : ℕ) → On d (s .at) → On d (e .at) → p ≤ 7
+      → Shows spanMost (v .body r s p e)
   body-good r f d s e p a b h =
       let x = uncertain-used first ats os ok (readingAt (s .date) (s .time)) (published (r .uncertainty)) (f .uncertainty) in
       let y = uncertain-used first ats os ok (readingAt (e .date) (e .time)) (published (r .uncertainty)) (f .uncertainty) in
@@ -341,7 +335,8 @@ module _ (first : ℕ) (ats os : List ℕ) (ok : Valid first ats os) (g : ℕ �
         few = omega (arith, length-sorted (found zone es (s .at) (e .at)), rare (s .at) (e .at) (omega (arith, l, m)));
       }
 
-  cut-good : (r : Rule) → RuleFits r → (s : Edge) (p : ℕ) (qs : List Point) → On (s .date) (s .at) → p ≤ 7 → EachPoint qs → Bodies (Shows spanMost) (cut v r s p qs)
+  cut-good : (r : Rule) → RuleFits r → (s : Edge) (p : ℕ) (qs : List Point) → On (s .date) (s .at) → p ≤ 7 → EachPoint qs
+      → Bodies (Shows spanMost) (cut v r s p qs)
   unfolding cut
   cut-good r f s p [] o h e =
       let end = raised v (s .at) (suc (s .date)) 0 in
@@ -360,7 +355,8 @@ module _ (first : ℕ) (ats os : List ℕ) (ok : Valid first ats os) (g : ℕ �
       points : (r : Rule) → RuleFits r → (ps : List Point) → EachPoint ps → Bodies (Shows spanMost) (ofPoints v r d ps)
       points r f [] e = tt
       points r f (p ∷ ps) e =
-          cut-good r f (raised v 0 d (p .time)) (p .phase) ps (first-on d (v .conv d (p .time)) (conv-by d d (p .time) (on-date d (p .time)))) (e .1) (e .2)
+          let begins = first-on d (v .conv d (p .time)) (conv-by d d (p .time) (on-date d (p .time))) in
+          cut-good r f (raised v 0 d (p .time)) (p .phase) ps begins (e .1) (e .2)
 
       go : (o : Option Rule) → g d ≡ o → Bodies (Shows spanMost) (ofRule v d o)
       go none e = tt
@@ -369,18 +365,16 @@ module _ (first : ℕ) (ats os : List ℕ) (ok : Valid first ats os) (g : ℕ �
   walk-good : (hi n cursor : ℕ) → Bodies (Shows spanMost) (walk v hi n cursor)
   unfolding walk
   walk-good hi zero cursor = tt
-  walk-good hi (suc n) cursor = go (ltb cursor next) (walk-good hi n next)
+  walk-good hi (suc n) cursor =
+      let clipped = bodies-clip (Shows spanMost) cursor hi (spans v (v .reads cursor)) (spans-good (v .reads cursor)) in
+      either-way (Bodies (Shows spanMost)) (ltb cursor next)
+      (bodies-append (Shows spanMost) here (walk v hi n next) clipped (walk-good hi n next)) tt
     where
       here : List (Span (Option Shown))
       here = clip cursor hi (spans v (v .reads cursor))
 
       next : ℕ
       next = reach (min hi (midnight v (suc (v .reads cursor)))) here
-
-      go : (q : Bool) → Bodies (Shows spanMost) (walk v hi n next) → Bodies (Shows spanMost) (cond q (here ++ walk v hi n next) [])
-      go true h =
-          bodies-append (Shows spanMost) here (walk v hi n next) (bodies-clip (Shows spanMost) cursor hi (spans v (v .reads cursor)) (spans-good (v .reads cursor))) h
-      go false h = tt
 
   keep-length : (a b : ℕ) (rest : List (Span (Option Shown))) → length (keep a b none rest) ≤ suc (length rest)
   unfolding keep
@@ -396,14 +390,16 @@ module _ (first : ℕ) (ats os : List ℕ) (ok : Valid first ats os) (g : ℕ �
   timeline-good c w =
       let lo = max (w .start) (c .start) in
       let hi = min (w .end) (c .end) in
+      let until = min (w .end) (c .start) in
+      let since = max (w .start) (c .end) in
       let walked = walk v hi turns lo in
-      let behind : List (Span (Option Shown)) = keep (max (w .start) (c .end)) (w .end) none [] in
+      let behind : List (Span (Option Shown)) = keep since (w .end) none [] in
       let rest = walked ++ behind in
       let l = walk-length v (λ d r e. fits d r e .good .few) hi turns lo in
-      joined-bodies segments Shows shows-more shows-merged rowMost (keep (w .start) (min (w .end) (c .start)) none rest)
-      (bodies-keep (Shows spanMost) (w .start) (min (w .end) (c .start)) none rest tt
-      (bodies-append (Shows spanMost) walked behind (walk-good hi turns lo) (bodies-keep (Shows spanMost) (max (w .start) (c .end)) (w .end) none [] tt tt)))
-      (omega (arith, l, keep-length (w .start) (min (w .end) (c .start)) rest, length-append walked behind, keep-length (max (w .start) (c .end)) (w .end) []))
+      let good = bodies-append (Shows spanMost) walked behind (walk-good hi turns lo) (bodies-keep (Shows spanMost) since (w .end) none [] tt tt) in
+      joined-bodies segments Shows shows-more shows-merged rowMost (keep (w .start) until none rest)
+      (bodies-keep (Shows spanMost) (w .start) until none rest tt good)
+      (omega (arith, l, keep-length (w .start) until rest, length-append walked behind, keep-length since (w .end) []))
 
 -- ---- an accepted book
 
@@ -419,7 +415,12 @@ module _ (s : List ℕ) (b : Bytes s) where
       let t = two-bytes (p + text 3 .from) in
       record {
         good = good-rule s p l;
-        numbers = record { label = two-bytes (p + ruleLabel .from); evidence = two-bytes (p + ruleEvidence .from); derived = two-bytes (p + ruleDerived .from); text = t };
+        numbers = record {
+          label = two-bytes (p + ruleLabel .from);
+          evidence = two-bytes (p + ruleEvidence .from);
+          derived = two-bytes (p + ruleDerived .from);
+          text = t;
+        };
         uncertainty = published-used (ruleAt s p .uncertainty) (nanoseconds-fit 3 p) t;
       }
 
@@ -436,7 +437,8 @@ module _ (s : List ℕ) (b : Bytes s) where
   events-fit (p ∷ ps) = (event-fits p, events-fit ps)
 
   -- every segment of its timelines
-  pub segments-good : refusal base s ≡ 0 → (c : Coverage) → coverageOf (records s) ≡ some c → (w : Part) → Bodies (Shows rowMost) (timelineOf (valuesOf (records s) c) w)
+  pub segments-good : refusal base s ≡ 0 → (c : Coverage) → coverageOf (records s) ≡ some c → (w : Part)
+      → Bodies (Shows rowMost) (timelineOf (valuesOf (records s) c) w)
   segments-good e c q w =
       let rs = records s in
       let ok = zone-valid s e c q in

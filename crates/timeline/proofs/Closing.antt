@@ -29,9 +29,11 @@ use Rattle.timeline.proofs.Parts.{told-timeline}
 
 -- ---- what is told is document 01's answer
 
-cover-is : {s : List ℕ} {h : Header} (k : Known s h) → coverOf (Between (h .start) (h .end)) ≡ some (record { start = k .covered .start; end = k .covered .end })
+cover-is : {s : List ℕ} {h : Header} (k : Known s h)
+    → coverOf (Between (h .start) (h .end)) ≡ some (record { start = k .covered .start; end = k .covered .end })
 cover-is k =
-    ap (λ (x : Header). coverOf (Between (x .start) (x .end))) (k .header) ∙ ap₂ (λ (x y : ℤ). some (record { start = x; end = y })) (start-number k) (end-number k)
+    ap (λ (x : Header). coverOf (Between (x .start) (x .end))) (k .header)
+    ∙ ap₂ (λ (x y : ℤ). some (record { start = x; end = y })) (start-number k) (end-number k)
 
 told-is : {s : List ℕ} {h : Header} (k : Known s h) (m n : ℤ) (v : Values) → v ≡ valuesOf (records s) (k .covered)
     → told v (Between (h .start) (h .end)) (instantOf m) (instantOf n) ≡ windowForms s m n
@@ -56,7 +58,8 @@ module _ (s : List ℕ) (m n : ℤ) {room : List ℕ} {r : Reply} where
 
   module _ {left : List ℕ} {a b : Instant} where
     -- a venue without data
-    pub close-empty : Blanked s m n a b → Lent 0 (encodeAll (gapForms none (a .0) (b .0))) room left r → Lent (windowNumber s m n) (windowAnswer s m n) room left r
+    pub close-empty : Blanked s m n a b → Lent 0 (encodeAll (gapForms none (a .0) (b .0))) room left r
+        → Lent (windowNumber s m n) (windowAnswer s m n) room left r
     unfolding windowAnswer blank
     close-empty j w =
         let p : Part = record { start = instantOf m; end = instantOf n } in
@@ -66,8 +69,10 @@ module _ (s : List ℕ) (m n : ℤ) {room : List ℕ} {r : Reply} where
 
     -- a venue
     pub close-venue : {h : Header} (j : Named s m n h a b) (v : Values) → v ≡ valuesOf (records s) (j .known .covered)
-        → Lent 0 (encodeAll (told v (Between (h .start) (h .end)) (a .0) (b .0))) room left r → Lent (windowNumber s m n) (windowAnswer s m n) room left r
+        → Lent 0 (encodeAll (told v (Between (h .start) (h .end)) (a .0) (b .0))) room left r
+        → Lent (windowNumber s m n) (windowAnswer s m n) room left r
     unfolding windowAnswer
     close-venue {h} j v q w =
         lent-same w (sym (j .passed))
-        (ap₂ (λ (x y : ℕ). encodeAll (told v (Between (h .start) (h .end)) x y)) (j .window .start) (j .window .end) ∙ ap encodeAll (told-is (j .known) m n v q))
+        (ap₂ (λ (x y : ℕ). encodeAll (told v (Between (h .start) (h .end)) x y)) (j .window .start) (j .window .end)
+        ∙ ap encodeAll (told-is (j .known) m n v q))

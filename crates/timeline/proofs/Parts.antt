@@ -46,7 +46,8 @@ gap-none {from} {to} h = simp (le-ltb from to h)
 
 module _ (c : Covered) {from to : ℕ} {room : List ℕ} {at : ℕ} where
   -- it is written
-  pub gap-put : {left : List ℕ} {next : ℕ} → from < to → Put room at (encode (unknown (gapOf from to c))) 37 left next → Put room at (encodeAll (gapForms (coverOf c) from to)) (gapSize from to) left next
+  pub gap-put : {left : List ℕ} {next : ℕ} → from < to → Put room at (encode (unknown (gapOf from to c))) 37 left next
+      → Put room at (encodeAll (gapForms (coverOf c) from to)) (gapSize from to) left next
   unfolding keep timelineForms
   gap-put h w = let e = lt-ltb from to h in rw (e, ← (one-form (unknown (gapOf from to c)))) w
 
@@ -76,55 +77,69 @@ gap-length c from to = go (ltb from to)
 abbrev pub walked : Values → ℕ → ℕ → List Form
 walked v lo hi = phaseForms (walkSpans (v .zone) (v .governing) (v .events) lo hi)
 
-module _ (v : Values) (c : Covered) (start end : ℕ) {before lo hi after : ℕ} (b : before ≡ min end (v .coverage .start)) (l : lo ≡ max start (v .coverage .start))
-    (h : hi ≡ min end (v .coverage .end)) (a : after ≡ max start (v .coverage .end)) where
+-- a window cut at coverage's two ends, and the bytes that its walk takes
+pub record Cut (v : Values) (start end before lo hi after n : ℕ) : Type 0 where
+  pub first-to : before ≡ min end (v .coverage .start)
+  pub walk-from : lo ≡ max start (v .coverage .start)
+  pub walk-to : hi ≡ min end (v .coverage .end)
+  pub last-from : after ≡ max start (v .coverage .end)
+  pub size : n ≡ length (encodeAll (walked v lo hi))
+
+module _ {v : Values} (c : Covered) {start end before lo hi after n : ℕ} (cut : Cut v start end before lo hi after n) where
   abbrev first : List Form
   first = gapForms (coverOf c) start before
+
+  abbrev middle : List Form
+  middle = walked v lo hi
 
   abbrev last : List Form
   last = gapForms (coverOf c) after end
 
   abbrev inParts : List Form
-  inParts = first ++ (walked v lo hi ++ last)
+  inParts = first ++ (middle ++ last)
+
+  abbrev pub total : ℕ
+  total = gapSize start before + n + gapSize after end
 
   in-three : inParts ≡ told v c start end
-  in-three = rw (b, l, h, a)
+  in-three = rw (cut .first-to, cut .walk-from, cut .walk-to, cut .last-from)
 
-  parts-length : length (encodeAll inParts) ≡ gapSize start before + length (encodeAll (walked v lo hi)) + gapSize after end
+  parts-length : length (encodeAll inParts) ≡ total
   parts-length =
-      let x = append-length first (walked v lo hi ++ last) in
-      let y = append-length (walked v lo hi) last in
+      let x = append-length first (middle ++ last) in
+      let y = append-length middle last in
       let f = gap-length (coverOf c) start before in
       let g = gap-length (coverOf c) after end in
-      omega arith
+      omega (arith, cut .size)
 
-  module _ {n : ℕ} (size : n ≡ length (encodeAll (walked v lo hi))) {room : List ℕ} where
-    -- there is too little room
-    pub told-short : {r : Reply} → length room < gapSize start before + n + gapSize after end → r ≡ record { number = 16; length = 0 } → Lent 0 (encodeAll (told v c start end)) room room r
-    told-short s q = lent-same (lent-reply (lent-short (encodeAll inParts) room refl (omega (arith, parts-length))) q) refl (ap encodeAll in-three)
+  parts-encoded : encodeAll inParts ≡ encodeAll first ++ (encodeAll middle ++ encodeAll last)
+  parts-encoded = encode-append first (middle ++ last) ∙ ap (λ (x : List ℕ). encodeAll first ++ x) (encode-append middle last)
 
-    -- it is written, each part behind the one before
-    module _ (fits : gapSize start before + n + gapSize after end ≤ length room) {now : List ℕ} {place : ℕ} (one : Put room 0 (encodeAll first) (gapSize start before) now place) where
-      pub walk-room : place + length (encodeAll (walked v lo hi)) ≤ length now
-      walk-room = omega (arith, one .behind, one .kept)
+  -- there is too little room
+  pub told-short : {room : List ℕ} {r : Reply} → length room < total → r ≡ record { number = 16; length = 0 }
+      → Lent 0 (encodeAll (told v c start end)) room room r
+  told-short {room} s q =
+      lent-same (lent-reply (lent-short (encodeAll inParts) room refl (omega (arith, parts-length))) q) refl (ap encodeAll in-three)
 
-      module _ {now2 : List ℕ} {place2 : ℕ} (two : Put now place (encodeAll (walked v lo hi)) (length (encodeAll (walked v lo hi))) now2 place2) where
-        pub last-room : place2 + gapSize after end ≤ length now2
-        last-room = omega (arith, one .behind, one .kept, two .behind, two .kept)
+  -- it is written, each part behind the one before
+  module _ {room now : List ℕ} {place : ℕ} (fits : total ≤ length room) (one : Put room 0 (encodeAll first) (gapSize start before) now place) where
+    pub walk-room : place + length (encodeAll middle) ≤ length now
+    walk-room = omega (arith, cut .size, one .behind, one .kept)
 
-        pub told-written : {left : List ℕ} {total : ℕ} {r : Reply} → Put now2 place2 (encodeAll last) (gapSize after end) left total → r ≡ record { number = 0; length = total }
-            → Lent 0 (encodeAll (told v c start end)) room left r
-        told-written {left} {total} three q =
-            let m = length (encodeAll (walked v lo hi)) in
-            let rest = also (m + gapSize after end) two three refl (omega (arith, one .behind, one .kept)) in
-            let w = also (gapSize start before + (m + gapSize after end)) one rest refl (omega arith) in
-            let e : encodeAll inParts ≡ encodeAll first ++ (encodeAll (walked v lo hi) ++ encodeAll last) =
-            encode-append first (walked v lo hi ++ last) ∙ ap (λ (x : List ℕ). encodeAll first ++ x) (encode-append (walked v lo hi) last) in
-            lent-same
-            (lent-reply
-            (lent-written (encodeAll inParts) room refl (omega (arith, parts-length)) (w .same ∙ ap (wrote room 0) (sym e)) (omega (arith, w .behind, parts-length)))
-            q)
-            refl (ap encodeAll in-three)
+    module _ {now2 : List ℕ} {place2 : ℕ} (two : Put now place (encodeAll middle) (length (encodeAll middle)) now2 place2) where
+      pub last-room : place2 + gapSize after end ≤ length now2
+      last-room = omega (arith, cut .size, one .behind, one .kept, two .behind, two .kept)
+
+      pub told-written : {left : List ℕ} {m : ℕ} {r : Reply} → Put now2 place2 (encodeAll last) (gapSize after end) left m
+          → r ≡ record { number = 0; length = m } → Lent 0 (encodeAll (told v c start end)) room left r
+      told-written three q =
+          let long = length (encodeAll middle) in
+          let rest = also (long + gapSize after end) two three refl (omega (arith, cut .size, one .behind, one .kept)) in
+          let w = also (gapSize start before + (long + gapSize after end)) one rest refl (omega (arith, cut .size)) in
+          let all = w .same ∙ ap (wrote room 0) (sym parts-encoded) in
+          lent-same
+          (lent-reply (lent-written (encodeAll inParts) room refl (omega (arith, parts-length)) all (omega (arith, w .behind, cut .size, parts-length))) q)
+          refl (ap encodeAll in-three)
 
 -- ---- a timeline's records
 
@@ -186,14 +201,18 @@ pub told-timeline : (v : Values) (c : Covered) (w : Part) → v .coverage .start
     → told v c (w .start) (w .end) ≡ timelineForms (coverOf c) (timelineOf v w)
 told-timeline v c w h =
     let o = coverOf c in
+    let z = v .zone in
+    let g = v .governing in
+    let es = v .events in
     let lo = max (w .start) (v .coverage .start) in
     let hi = min (w .end) (v .coverage .end) in
-    let spans = walkSpans (v .zone) (v .governing) (v .events) lo hi in
+    let until = min (w .end) (v .coverage .start) in
+    let spans = walkSpans z g es lo hi in
     let last : List (Span (Option Shown)) = keep (max (w .start) (v .coverage .end)) (w .end) none [] in
     sym
     (ap (timelineForms o)
-    (in-parts segments none refl merges (showing (v .zone) (v .governing) (v .events)) (v .coverage) w h (walk-phases (v .zone) (v .governing) (v .events) hi lo)
-    ∙ ap (λ (ss : List (Span (Option Shown))). keep (w .start) (min (w .end) (v .coverage .start)) none (ss ++ last)) (walk-joined (v .zone) (v .governing) (v .events) hi lo))
-    ∙ forms-keep o (w .start) (min (w .end) (v .coverage .start)) (onSpans some spans ++ last)
-    ∙ ap (λ (fs : List Form). gapForms o (w .start) (min (w .end) (v .coverage .start)) ++ fs)
+    (in-parts segments none refl merges (showing z g es) (v .coverage) w h (walk-phases z g es hi lo)
+    ∙ ap (λ (ss : List (Span (Option Shown))). keep (w .start) until none (ss ++ last)) (walk-joined z g es hi lo))
+    ∙ forms-keep o (w .start) until (onSpans some spans ++ last)
+    ∙ ap (λ (fs : List Form). gapForms o (w .start) until ++ fs)
     (forms-append o (onSpans some spans) last ∙ ap (λ (fs : List Form). fs ++ timelineForms o last) (forms-phases o spans)))

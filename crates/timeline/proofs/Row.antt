@@ -109,12 +109,18 @@ module _ (from to least : ℕ) (forward : from < to) (used : to ≤ lastInstant)
 good-event : (o : Occurrence) → Used o → GoodEvent (eventOf (o .code) (o .boundary) (o .evidence))
 good-event o u =
     record {
-      fits = record { code = u .code; at = instant-fits (o .boundary .at .0) (u .boundary .at); uncertainty = values-fit (o .boundary .uncertainty) (u .boundary .uncertainty); evidence = u .evidence };
+      fits = record {
+        code = u .code;
+        at = instant-fits (o .boundary .at .0) (u .boundary .at);
+        uncertainty = values-fit (o .boundary .uncertainty) (u .boundary .uncertainty);
+        evidence = u .evidence;
+      };
       tag = tagged (o .boundary .uncertainty);
     }
 
 -- a phase's events, and what follows them
-events-owed : (least : ℕ) (os : List Occurrence) (fs : List Form) → Every Used os → Owing least 0 fs → Owing least (length os) (map eventForm os ++ fs)
+events-owed : (least : ℕ) (os : List Occurrence) (fs : List Form) → Every Used os → Owing least 0 fs
+    → Owing least (length os) (map eventForm os ++ fs)
 unfolding Owing
 events-owed least [] fs u h = h
 events-owed least (o ∷ os) fs u h = (good-event o (u .0), events-owed least os fs (u .1) h)
@@ -122,7 +128,8 @@ events-owed least (o ∷ os) fs u h = (good-event o (u .0), events-owed least os
 -- ---- segments in order are a row
 
 module _ (c : Option Cover) (f : FitsCover c) (hi n : ℕ) (used : hi ≤ lastInstant) (few : n < 2 ^ 32) where
-  pub segments-row : (lo least : ℕ) (ss : List (Span (Option Shown))) → Within lo hi ss → Bodies (Shows n) ss → least ≤ lo + instantZero → Owing least 0 (timelineForms c ss)
+  pub segments-row : (lo least : ℕ) (ss : List (Span (Option Shown))) → Within lo hi ss → Bodies (Shows n) ss → least ≤ lo + instantZero
+      → Owing least 0 (timelineForms c ss)
   unfolding timelineForms Owing
   segments-row lo least [] w g h = tt
   segments-row lo least (s ∷ ss) w g h =
@@ -134,10 +141,13 @@ module _ (c : Option Cover) (f : FitsCover c) (hi n : ℕ) (used : hi ≤ lastIn
       begins : least ≤ s .from + instantZero
       begins = let a = w .0 in omega arith
 
-      go : (o : Option Shown) → Shows n o → Owing (instant (instantNumber (s .to))) 0 (timelineForms c ss) → Owing least 0 (segmentForms c (s .from) (s .to) o ++ timelineForms c ss)
+      go : (o : Option Shown) → Shows n o → Owing (instant (instantNumber (s .to))) 0 (timelineForms c ss)
+          → Owing least 0 (segmentForms c (s .from) (s .to) o ++ timelineForms c ss)
       go none k on = (good-gap (s .from) (s .to) least (w .1) ends begins c f, on)
-      go (some x) k on =
-          (good-phase (s .from) (s .to) least (w .1) ends begins x k few, events-owed (instant (instantNumber (s .to))) (x .events) (timelineForms c ss) (k .events) on)
+      go (some x) k on = (
+        good-phase (s .from) (s .to) least (w .1) ends begins x k few,
+        events-owed (instant (instantNumber (s .to))) (x .events) (timelineForms c ss) (k .events) on,
+      )
 
 -- ---- the window's
 
@@ -150,7 +160,9 @@ module _ (s : List ℕ) (z : refusal base s ≡ 0) where
       let g = good-coverage s z c q in
       let i : instantOf (c .end) ≤ lastInstant = omega (arith, g .end-high) in
       let j : instantOf (c .start) ≤ lastInstant = omega (arith, g .order) in
-      (subst (SFits w64) (start-number k) (instant-fits (instantOf (c .start)) j), subst (SFits w64) (end-number k) (instant-fits (instantOf (c .end)) i))
+      let start = subst (SFits w64) (start-number k) (instant-fits (instantOf (c .start)) j) in
+      let end = subst (SFits w64) (end-number k) (instant-fits (instantOf (c .end)) i) in
+      (start, end)
 
   bodies-by : Bytes s → (w : Part) (o : Option Coverage) → coverageOf (records s) ≡ o → Bodies (Shows rowMost) (segmentsBy (records s) w o)
   unfolding blank

@@ -41,9 +41,11 @@ abbrev pub seenEvents : Option Shown → List Event
 seenEvents none = []
 seenEvents (some x) = map seenEvent (x .events)
 
+abbrev seenAs : ℕ → ℕ → Mark → List Event → Span Seen
+seenAs from to m es = record { from = instant (instantNumber from); to = instant (instantNumber to); body = record { mark = m; events = es } }
+
 abbrev pub seenBetween : ℕ → ℕ → Option Shown → Span Seen
-seenBetween from to o =
-    record { from = instant (instantNumber from); to = instant (instantNumber to); body = record { mark = markOf o; events = seenEvents o } }
+seenBetween from to o = seenAs from to (markOf o) (seenEvents o)
 
 abbrev pub seenSpan : Span (Option Shown) → Span Seen
 seenSpan s = seenBetween (s .from) (s .to) (s .body)
@@ -84,15 +86,17 @@ module _ (c : Option Cover) where
       rest : List Form
       rest = timelineForms c ss
 
-      go : (o : Option Shown) → seenOf rest ≡ map seenSpan ss → seenOf (segmentForms c (s .from) (s .to) o ++ rest) ≡ seenBetween (s .from) (s .to) o ∷ map seenSpan ss
+      go : (o : Option Shown) → seenOf rest ≡ map seenSpan ss
+          → seenOf (segmentForms c (s .from) (s .to) o ++ rest) ≡ seenBetween (s .from) (s .to) o ∷ map seenSpan ss
       go none on = ap (λ (l : List (Span Seen)). seenBetween (s .from) (s .to) none ∷ l) on
       go (some x) on =
-          ap₂ (λ (es : List Event) (l : List (Span Seen)). record { from = instant (instantNumber (s .from)); to = instant (instantNumber (s .to)); body = record { mark = markOf (some x); events = es } } ∷ l)
+          ap₂ (λ (es : List Event) (l : List (Span Seen)). seenAs (s .from) (s .to) (markOf (some x)) es ∷ l)
           (behind-events rest (x .events) (no-events ss)) (behind-seen rest (x .events) ∙ on)
 
 -- ---- all instants are moved by one number
 
-seen-within : (lo hi p q : ℕ) (ss : List (Span (Option Shown))) → p ≡ lo + instantZero → q ≡ hi + instantZero → Within lo hi ss → Within p q (map seenSpan ss)
+seen-within : (lo hi p q : ℕ) (ss : List (Span (Option Shown))) → p ≡ lo + instantZero → q ≡ hi + instantZero → Within lo hi ss
+    → Within p q (map seenSpan ss)
 seen-within lo hi p q [] e i w = omega (arith, e, i, w)
 seen-within lo hi p q (s ∷ ss) e i w =
     let a = number-placed (s .from) in
@@ -150,7 +154,7 @@ module _ (s : List ℕ) (m n : ℤ) (b : Bytes s) (a : refusal base s ≡ 0) (e 
       let w = window-passed m n e in
       let ss = segmentsOf s m n in (
         subst (Within (placed w64 m) (placed w64 n)) (sym row-segments)
-            (seen-within (instantOf m) (instantOf n) (placed w64 m) (placed w64 n) ss (instant-of m (w .start-in)) (instant-of n (w .end-in)) (h .within)),
+            (seen-within _ _ _ _ ss (instant-of m (w .start-in)) (instant-of n (w .end-in)) (h .within)),
         subst (Apart seenMarks) (sym row-segments) (seen-apart ss (h .apart)),
       )
 

@@ -29,13 +29,14 @@ pub record Shape (s : List ℕ) (m n : ℤ) : Type 0 where
   pub apart : Apart segments (segmentsOf s m n)
 
 module _ (rs : List Record) (w : Part) (h : w .start < w .end) where
-  within-by : (o : Option Coverage) → ((c : Coverage) → o ≡ some c → instantOf (c .start) < instantOf (c .end)) → Within (w .start) (w .end) (segmentsBy rs w o)
+  within-by : (o : Option Coverage) → ((c : Coverage) → o ≡ some c → instantOf (c .start) < instantOf (c .end))
+      → Within (w .start) (w .end) (segmentsBy rs w o)
   unfolding timeline
   within-by none k = blank-shape segments none w refl h
   within-by (some c) k =
       let v = valuesOf rs c in
-      let spans = unjoined (showing (v .zone) (v .governing) (v .events)) none (v .coverage) w in
-      joined-within segments (w .start) (w .end) spans (unjoined-within (showing (v .zone) (v .governing) (v .events)) none (v .coverage) w (k c refl) h)
+      let shows = showing (v .zone) (v .governing) (v .events) in
+      joined-within segments (w .start) (w .end) (unjoined shows none (v .coverage) w) (unjoined-within shows none (v .coverage) w (k c refl) h)
 
   apart-by : (o : Option Coverage) → Apart segments (segmentsBy rs w o)
   unfolding timeline blank keep

@@ -39,10 +39,12 @@ within : (w : Width) (low high : ℕ) (z : ℤ) → low < half w → high < half
 unfolding placed
 within w low high (pos n) l h e =
     let b = leb-true n high (not-false (leb n high) e) in
-    record { place = n + half w; same = sym (meant-placed w (pos n) (record { sfits = omega arith })); above = omega arith; below = omega arith }
+    let same = sym (meant-placed w (pos n) (record { sfits = omega arith })) in
+    record { place = n + half w; same = same; above = omega arith; below = omega arith }
 within w low high (negsuc n) l h e =
     let b = leb-true n low (and-true (leb n low) true (not-false (leb n low && true) e) .0) in
-    record { place = half w - suc n; same = sym (meant-placed w (negsuc n) (record { sfits = omega arith })); above = omega arith; below = omega arith }
+    let same = sym (meant-placed w (negsuc n) (record { sfits = omega arith })) in
+    record { place = half w - suc n; same = same; above = omega arith; below = omega arith }
 
 module _ {w : Width} {low high : ℕ} {z : ℤ} (m : Within w low high z) where
   -- counted from an origin below the range
@@ -58,26 +60,41 @@ module _ {w : Width} {low high : ℕ} {z : ℤ} (m : Within w low high z) where
         ltb-false (m′ .place) (m .place + k)
         (sym (ap₂ ltZ (m′ .same) (ap (λ (i : ℤ). i +ℤ pos k) (m .same) ∙ meant-sum w (m .place) k) ∙ order-lt w (m′ .place) (m .place + k)) ∙ e)
 
--- ---- the header
+-- the ranges of a book: an instant of coverage, the second of a clock change, an offset
+abbrev Instant : ℤ → Type 0
+Instant z = Within w64 (2177452800 * secondNs - 1) (7226582400 * secondNs) z
 
-offset-in : {z : ℤ} → Within w32 57599 57600 z → offsetOf z ≤ 2 * mostOffset
+instant-within : (z : ℤ) → not (inside instants z) ≡ false → Instant z
+instant-within z e = within w64 (2177452800 * secondNs - 1) (7226582400 * secondNs) z (omega arith) (omega arith) e
+
+abbrev Second : ℤ → Type 0
+Second z = Within w64 2208988799 7258118400 z
+
+second-within : (z : ℤ) → not (inside seconds z) ≡ false → Second z
+second-within z e = within w64 2208988799 7258118400 z (omega arith) (omega arith) e
+
+abbrev Offset : ℤ → Type 0
+Offset z = Within w32 57599 57600 z
+
+offset-within : (z : ℤ) → not (inside offsets z) ≡ false → Offset z
+offset-within z e = within w32 57599 57600 z (omega arith) (omega arith) e
+
+offset-in : {z : ℤ} → Offset z → offsetOf z ≤ 2 * mostOffset
 offset-in m = let c = counted m mostOffset (omega arith) (omega arith) in let b = m .below in omega arith
 
+-- ---- the header
+
 record Header (c : Coverage) : Type 0 where
-  start : Within w64 (2177452800 * secondNs - 1) (7226582400 * secondNs) (c .start)
-  end : Within w64 (2177452800 * secondNs - 1) (7226582400 * secondNs) (c .end)
-  offset : Within w32 57599 57600 (c .offset)
+  start : Instant (c .start)
+  end : Instant (c .end)
+  offset : Offset (c .offset)
 
 header : (c : Coverage) → badFields base (coverage c) ≡ false → Header c
 unfolding badFields
 header c e =
     let o = or-false (not (inside instants (c .start)) || not (inside instants (c .end))) (not (inside offsets (c .offset))) e in
     let i = or-false (not (inside instants (c .start))) (not (inside instants (c .end))) (o .0) in
-    record {
-      start = within w64 (2177452800 * secondNs - 1) (7226582400 * secondNs) (c .start) (omega arith) (omega arith) (i .0);
-      end = within w64 (2177452800 * secondNs - 1) (7226582400 * secondNs) (c .end) (omega arith) (omega arith) (i .1);
-      offset = within w32 57599 57600 (c .offset) (omega arith) (omega arith) (o .1);
-    }
+    record { start = instant-within (c .start) (i .0); end = instant-within (c .end) (i .1); offset = offset-within (c .offset) (o .1) }
 
 covers : (c : Coverage) → Header c → coversNothing (coverage c) ≡ false → GoodCoverage c
 covers c h e =
@@ -94,9 +111,6 @@ covers c h e =
 abbrev pub Chain : List Record → List Record → Type 0
 Chain earlier [] = Unit {0}
 Chain earlier (r ∷ rs) = Passed base earlier r × Chain (r ∷ earlier) rs
-
-abbrev Second : ℤ → Type 0
-Second z = Within w64 2208988799 7258118400 z
 
 -- of the last clock change before, if there is one: it is in its range, and the next comes far enough behind it
 abbrev Last : Option ℤ → Type 0
@@ -129,7 +143,8 @@ far (some y) ats l m e =
     let r = l .above in
     omega arith
 
-changes : (earlier rs : List Record) → Chain earlier rs → Last (lastInstant earlier) → Changes (lastInstant earlier) (atsOf rs) (offsetsOf rs)
+changes : (earlier rs : List Record) → Chain earlier rs → Last (lastInstant earlier)
+    → Changes (lastInstant earlier) (atsOf rs) (offsetsOf rs)
 unfolding transitionsOf badFields
 changes earlier [] c l = no-changes (lastInstant earlier)
 changes earlier (coverage v ∷ rs) c l = changes (coverage v ∷ earlier) rs (c .1) l
@@ -138,8 +153,8 @@ changes earlier (event v ∷ rs) c l = changes (event v ∷ earlier) rs (c .1) l
 changes earlier (transition t ∷ rs) c l =
     let f = or-false (badFields base (transition t)) (badItems (transition t)) (c .0 .fields) .0 in
     let o = or-false (not (inside seconds (t .at))) (not (inside offsets (t .offset))) f in
-    let m : Second (t .at) = within w64 2208988799 7258118400 (t .at) (omega arith) (omega arith) (o .0) in
-    let n = within w32 57599 57600 (t .offset) (omega arith) (omega arith) (o .1) in
+    let m = second-within (t .at) (o .0) in
+    let n = offset-within (t .offset) (o .1) in
     let on = changes (transition t ∷ earlier) rs (c .1) m in
     let v = second-value m in
     let low = m .above in
@@ -153,14 +168,17 @@ changes earlier (transition t ∷ rs) c l =
 
 -- ---- of a whole book
 
+no-coverage : {c : Coverage} → none ≡ some c → ⊥
+no-coverage e = let z : _≡_ {A = ℕ} 0 1 = cc in omega arith
+
 first-header : (rs : List Record) (c : Coverage) → Chain [] rs → coverageOf rs ≡ some c → Header c × (coversNothing (coverage c) ≡ false)
-first-header [] c p e = absurd (let z : _≡_ {A = ℕ} 0 1 = cc in omega arith)
+first-header [] c p e = absurd (no-coverage e)
 first-header (coverage v ∷ rs) c p e =
     let i : v ≡ c = cc in
     rw⁻¹ i (header v (or-false (badFields base (coverage v)) (badItems (coverage v)) (p .0 .fields) .0), p .0 .covering)
-first-header (transition v ∷ rs) c p e = absurd (let z : _≡_ {A = ℕ} 0 1 = cc in omega arith)
-first-header (rule v ∷ rs) c p e = absurd (let z : _≡_ {A = ℕ} 0 1 = cc in omega arith)
-first-header (event v ∷ rs) c p e = absurd (let z : _≡_ {A = ℕ} 0 1 = cc in omega arith)
+first-header (transition v ∷ rs) c p e = absurd (no-coverage e)
+first-header (rule v ∷ rs) c p e = absurd (no-coverage e)
+first-header (event v ∷ rs) c p e = absurd (no-coverage e)
 
 module _ (rs : List Record) (chain : Chain [] rs) (c : Coverage) (e : coverageOf rs ≡ some c) where
   pub covers-good : GoodCoverage c

@@ -1,5 +1,5 @@
 -- The arrays that opening fills: what their fronts hold, and their lengths. Assumes nothing.
-use mathlib.Core.Path.{_≡_, refl, sym, ap, ap₂, _∙_, subst}
+use mathlib.Core.Path.{_≡_, refl, sym, ap, ap₂, _∙_}
 use mathlib.Core.Bool.{Bool, cond}
 use mathlib.Core.List.{List, [], _∷_, _++_}
 use Prim.Native.Nat.{ℕ, _+_, _≤_}
@@ -10,7 +10,6 @@ use lib.Dec.{eqb}
 use lib.ListN.{length, take, drop}
 use Rattle.wire.specs.Fields.{wrote}
 use Rattle.wire.proofs.Writing.{wrote-length}
-use Rattle.zone.specs.Answers.{Valid}
 use Rattle.records.specs.Limits.{base}
 use Rattle.records.specs.Book.{refusal, records}
 use Rattle.venue.specs.Opening.{atsOf, offsetsOf, places, opened, stored}
@@ -25,8 +24,9 @@ use Rattle.venue.proofs.Known.{Known, counts}
 
 pub ready : {s : List ℕ} {h : Header} → Known s h → Ready s (h .first) (atsOf (records s)) (offsetsOf (records s)) (places 3 s) (places 4 s)
 ready {s} {h} k =
+    let first = ap (λ (x : Header). x .first) (k .header) in
     record {
-      zone = subst (λ (o : ℕ). Valid o (atsOf (records s)) (offsetsOf (records s))) (sym (ap (λ (x : Header). x .first) (k .header))) (zone-valid s (k .accepted) (k .covered) (k .is));
+      zone = rw first (zone-valid s (k .accepted) (k .covered) (k .is));
       rules-listed = places-listed 3 s (k .accepted);
       events-listed = places-listed 4 s (k .accepted);
       few = let e = events-count s (k .accepted) in omega (arith, e .0, e .1);
@@ -42,21 +42,22 @@ take-front (v ∷ vs) rest = ap (λ (l : List ℕ). v ∷ l) (take-front vs rest
 pub stored-front : (s old vs new : List ℕ) (n : ℕ) → refusal base s ≡ 0 → new ≡ stored s old vs → n ≡ length vs → take n new ≡ vs
 unfolding stored wrote
 stored-front s old vs new n z e q =
-    ap₂ take q e ∙ ap (λ (b : Bool). take (length vs) (cond b (wrote old 0 vs) old)) (eq-eqb (refusal base s) 0 z) ∙ take-front vs (drop (0 + length vs) old)
+    ap₂ take q e
+    ∙ ap (λ (b : Bool). take (length vs) (cond b (wrote old 0 vs) old)) (eq-eqb (refusal base s) 0 z)
+    ∙ take-front vs (drop (0 + length vs) old)
 
 module _ {s ats offsets rules events : List ℕ} {o : Opened} (w : Filled s o ats offsets rules events) {h : Header} (k : Known s h) where
   pub ats-front : take (h .transitions) ats ≡ atsOf (records s)
-  ats-front = stored-front s (w .old-ats) (atsOf (records s)) ats (h .transitions) (k .accepted) (w .ats-are) (counts k .0 ∙ sym (ats-many (records s)))
+  ats-front = stored-front s (w .old-ats) _ ats _ (k .accepted) (w .ats-are) (counts k .0 ∙ sym (ats-many (records s)))
 
   pub offsets-front : take (h .transitions) offsets ≡ offsetsOf (records s)
-  offsets-front =
-      stored-front s (w .old-offsets) (offsetsOf (records s)) offsets (h .transitions) (k .accepted) (w .offsets-are) (counts k .0 ∙ sym (offsets-many (records s)))
+  offsets-front = stored-front s (w .old-offsets) _ offsets _ (k .accepted) (w .offsets-are) (counts k .0 ∙ sym (offsets-many (records s)))
 
   pub rules-front : take (h .rules) rules ≡ places 3 s
-  rules-front = stored-front s (w .old-rules) (places 3 s) rules (h .rules) (k .accepted) (w .rules-are) (counts k .1)
+  rules-front = stored-front s (w .old-rules) _ rules _ (k .accepted) (w .rules-are) (counts k .1)
 
   pub events-front : take (h .events) events ≡ places 4 s
-  events-front = stored-front s (w .old-events) (places 4 s) events (h .events) (k .accepted) (w .events-are) (counts k .2)
+  events-front = stored-front s (w .old-events) _ events _ (k .accepted) (w .events-are) (counts k .2)
 
   -- they are no longer than the arrays
   pub ats-in : h .transitions ≤ length ats
@@ -77,12 +78,14 @@ module _ {s ats offsets rules events : List ℕ} {o : Opened} (w : Filled s o at
 -- ---- the lengths
 
 -- opening leaves an array as long as it was
-pub stored-length : (s old vs : List ℕ) {new : List ℕ} → (refusal base s ≡ 0 → length vs ≤ length old) → new ≡ stored s old vs → length new ≡ length old
+pub stored-length : (s old vs : List ℕ) {new : List ℕ} → (refusal base s ≡ 0 → length vs ≤ length old) → new ≡ stored s old vs
+    → length new ≡ length old
 unfolding stored
 stored-length s old vs h e = ap length e ∙ go (ℕ-discrete (refusal base s) 0)
   where
     go : Dec (refusal base s ≡ 0) → length (cond (eqb (refusal base s) 0) (wrote old 0 vs) old) ≡ length old
-    go (yes z) = ap (λ (b : Bool). length (cond b (wrote old 0 vs) old)) (eq-eqb (refusal base s) 0 z) ∙ wrote-length old 0 vs (let l = h z in omega arith)
+    go (yes z) =
+        ap (λ (b : Bool). length (cond b (wrote old 0 vs) old)) (eq-eqb (refusal base s) 0 z) ∙ wrote-length old 0 vs (let l = h z in omega arith)
     go (no z) = ap (λ (b : Bool). length (cond b (wrote old 0 vs) old)) (ne-eqb (refusal base s) 0 z)
 
 module _ (s : List ℕ) (z : refusal base s ≡ 0) where
@@ -100,7 +103,11 @@ module _ (s : List ℕ) (z : refusal base s ≡ 0) where
 
 -- what opening answers and stores, in arrays long enough for any book
 pub filled : (s ats offsets rules events : List ℕ) {ats′ offsets′ rules′ events′ : List ℕ} {o : Opened}
-    → (o ≡ opened s) × (ats′ ≡ stored s ats (atsOf (records s))) × (offsets′ ≡ stored s offsets (offsetsOf (records s))) × (rules′ ≡ stored s rules (places 3 s)) × (events′ ≡ stored s events (places 4 s))
+    → (o ≡ opened s)
+    × (ats′ ≡ stored s ats (atsOf (records s)))
+    × (offsets′ ≡ stored s offsets (offsetsOf (records s)))
+    × (rules′ ≡ stored s rules (places 3 s))
+    × (events′ ≡ stored s events (places 4 s))
     → base .transitions ≤ length ats → base .transitions ≤ length offsets → base .rules ≤ length rules → base .events ≤ length events
     → Filled s o ats′ offsets′ rules′ events′
 filled s ats offsets rules events e a b c d =

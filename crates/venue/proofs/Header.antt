@@ -76,15 +76,13 @@ module _ (s : List ℕ) (e : refusal base s ≡ 0) where
 pub record Head (s : List ℕ) : Type 0 where
   pub room : 24 ≤ length s
   pub start-low : half w64 - 2177452800 * secondNs ≤ turned w64 (number coverageStart s 0)
-  pub start-high : turned w64 (number coverageStart s 0) ≤ half w64 + 7226582400 * secondNs
   pub end-low : half w64 - 2177452800 * secondNs ≤ turned w64 (number coverageEnd s 0)
-  pub end-high : turned w64 (number coverageEnd s 0) ≤ half w64 + 7226582400 * secondNs
   pub offset-low : half w32 - 57600 ≤ turned w32 (number coverageOffset s 0)
-  pub offset-high : turned w32 (number coverageOffset s 0) ≤ half w32 + 57600
   pub is : coverageOf (records s) ≡ some (coverageAt s 0)
 
 module _ (s : List ℕ) (e : refusal base s ≡ 0) (ne : length s ≡ 0 → ⊥) where
-  first-by : (turns : ℕ) → Ahead s 0 turns [] → Framed s 0 × (kindAt s 0 ≡ 1) × (badFields base (recordAt s 0) ≡ false) × (coverageOf (recordsFrom s turns 0) ≡ some (coverageAt s 0))
+  first-by : (turns : ℕ) → Ahead s 0 turns []
+      → Framed s 0 × (kindAt s 0 ≡ 1) × (badFields base (recordAt s 0) ≡ false) × (coverageOf (recordsFrom s turns 0) ≡ some (coverageAt s 0))
   first-by zero a = absurd (no-turns a (omega arith))
   first-by (suc g) a =
       let h : 0 < length s = omega arith in
@@ -100,27 +98,28 @@ module _ (s : List ℕ) (e : refusal base s ≡ 0) (ne : length s ≡ 0 → ⊥)
   unfolding badFields meant records
   head =
       let f = first-by (length s) (ahead-start s e) in
-      let z : badFields base (coverage (coverageAt s 0)) ≡ false = ap (badFields base) (sym (is-one s 0 (kindAt s 0) (f .0) refl (f .1))) ∙ f .2 in
-      let q = or-false (not (inside instants (coverageAt s 0 .start)) || not (inside instants (coverageAt s 0 .end))) (not (inside offsets (coverageAt s 0 .offset))) z in
-      let o = or-false (not (inside instants (coverageAt s 0 .start))) (not (inside instants (coverageAt s 0 .end))) (q .0) in
-      let a = inside-range w64 (half w64 - 2177452800 * secondNs) (half w64 + 7226582400 * secondNs) (turned w64 (number coverageStart s 0)) (o .0) in
-      let b = inside-range w64 (half w64 - 2177452800 * secondNs) (half w64 + 7226582400 * secondNs) (turned w64 (number coverageEnd s 0)) (o .1) in
+      let v = coverageAt s 0 in
+      let z : badFields base (coverage v) ≡ false = ap (badFields base) (sym (is-one s 0 (kindAt s 0) (f .0) refl (f .1))) ∙ f .2 in
+      let q = or-false (not (inside instants (v .start)) || not (inside instants (v .end))) (not (inside offsets (v .offset))) z in
+      let o = or-false (not (inside instants (v .start))) (not (inside instants (v .end))) (q .0) in
+      let low = half w64 - 2177452800 * secondNs in
+      let high = half w64 + 7226582400 * secondNs in
+      let a = inside-range w64 low high (turned w64 (number coverageStart s 0)) (o .0) in
+      let b = inside-range w64 low high (turned w64 (number coverageEnd s 0)) (o .1) in
       let c = inside-range w32 (half w32 - 57600) (half w32 + 57600) (turned w32 (number coverageOffset s 0)) (q .1) in
       record {
         room = let r = room1 s 0 (kindAt s 0) (f .0) refl (f .1) in omega arith;
         start-low = a .0;
-        start-high = a .1;
         end-low = b .0;
-        end-high = b .1;
         offset-low = c .0;
-        offset-high = c .1;
         is = f .3;
       }
 
   instant-kept : (p : ℕ) → half w64 - 2177452800 * secondNs ≤ p → p - (half w64 - 2209593600 * secondNs) ≡ instantOf (meant w64 p)
   instant-kept p l = sym (since-meant w64 (zeroDay * dayNs) p (omega arith) (omega arith))
 
-  pub venue-answer : (a b o : ℕ) (n : Counts) → a ≡ turned w64 (number coverageStart s 0) → b ≡ turned w64 (number coverageEnd s 0) → o ≡ turned w32 (number coverageOffset s 0)
+  pub venue-answer : (a b o : ℕ) (n : Counts) → a ≡ turned w64 (number coverageStart s 0) → b ≡ turned w64 (number coverageEnd s 0)
+      → o ≡ turned w32 (number coverageOffset s 0)
       → n ≡ countsOf (records s)
       → Venue
       (record {

@@ -23,7 +23,7 @@ use Rattle.venue.specs.Opening.{instantOf, coverageOf, places, headerOf,
 use Rattle.venue.specs.declared.opened.Header.{Header}
 use Rattle.venue.specs.declared.opened.Opened.{Opened}
 use Rattle.venue.specs.declared.opened.Opened.the-variants.{Refused, Empty, Venue}
-use Rattle.venue.proofs.Header.{no-records, head}
+use Rattle.venue.proofs.Header.{no-records, Head, head}
 use Rattle.venue.proofs.Laws.{rules-count, events-count}
 
 -- ---- the cases of opening
@@ -47,10 +47,12 @@ opened-refused s n e = go (eqb (refusal base s) 0) refl e
     other none q = absurd (let y = ap caseOf q in omega arith)
     other (some c) q = absurd (let y = ap caseOf q in omega arith)
 
-    go : (b : Bool) → eqb (refusal base s) 0 ≡ b → Refused n ≡ cond b (venueOf (records s) (coverageOf (records s))) (Refused (refusal base s))
+    go : (b : Bool) → eqb (refusal base s) 0 ≡ b
+        → Refused n ≡ cond b (venueOf (records s) (coverageOf (records s))) (Refused (refusal base s))
         → (n ≡ refusal base s) × (refusal base s ≡ 0 → ⊥)
     go true i q = other (coverageOf (records s)) q
-    go false i q = (ap numberIn q, λ z. let y : _≡_ {A = Bool} true false = sym (eq-eqb (refusal base s) 0 z) ∙ i in let x : _≡_ {A = ℕ} 0 1 = cc in omega arith)
+    go false i q =
+        (ap numberIn q, λ z. let y : _≡_ {A = Bool} true false = sym (eq-eqb (refusal base s) 0 z) ∙ i in let x : _≡_ {A = ℕ} 0 1 = cc in omega arith)
 
 -- a venue without data
 pub opened-empty : (s : List ℕ) → Empty ≡ opened s → (refusal base s ≡ 0) × (coverageOf (records s) ≡ none)
@@ -84,18 +86,19 @@ opened-venue s h e = go (eqb (refusal base s) 0) refl e
     found z none i q = absurd (let y = ap caseOf q in omega arith)
     found z (some c) i q = record { accepted = z; covered = c; is = i; header = header c q }
 
-    go : (b : Bool) → eqb (refusal base s) 0 ≡ b → Venue h ≡ cond b (venueOf (records s) (coverageOf (records s))) (Refused (refusal base s)) → Known s h
+    go : (b : Bool) → eqb (refusal base s) 0 ≡ b
+        → Venue h ≡ cond b (venueOf (records s) (coverageOf (records s))) (Refused (refusal base s)) → Known s h
     go true i q = found (eqb-true (refusal base s) 0 i) (coverageOf (records s)) refl q
     go false i q = absurd (let y = ap caseOf q in omega arith)
 
 -- ---- instants and their numbers
 
--- an instant that is not before 1899-12-25 has its number
-pub number-placed : (p : ℕ) → instantZero ≤ p → instantNumber (instantOf (meant w64 p)) ≡ meant w64 p
-number-placed p h =
+-- one that is not before 1899-12-25 has its number
+number-back : {z : ℤ} (p : ℕ) → z ≡ meant w64 p → instantZero ≤ p → instantNumber (instantOf z) ≡ z
+number-back p e h =
     let i : instantOf (meant w64 p) ≡ p - instantZero = since-meant w64 (zeroDay * dayNs) p (omega arith) h in
     let j : p - instantZero + instantZero ≡ p = omega arith in
-    ap instantNumber i ∙ instant-placed (p - instantZero) ∙ ap (meant w64) j
+    ap (λ (x : ℤ). instantNumber (instantOf x)) e ∙ ap instantNumber i ∙ instant-placed (p - instantZero) ∙ ap (meant w64) j ∙ sym e
 
 -- ---- a venue's header
 
@@ -114,18 +117,15 @@ module _ {s : List ℕ} {h : Header} (k : Known s h) where
   not-empty : length s ≡ 0 → ⊥
   not-empty z = let e : none ≡ some c = sym (ap coverageOf (no-records s (k .accepted) z)) ∙ k .is in let y : _≡_ {A = ℕ} 0 1 = cc in omega arith
 
+  first : Head s
+  first = head s (k .accepted) not-empty
+
   at-head : c ≡ coverageAt s 0
-  at-head = let e : some c ≡ some (coverageAt s 0) = sym (k .is) ∙ head s (k .accepted) not-empty .is in cc
+  at-head = let e : some c ≡ some (coverageAt s 0) = sym (k .is) ∙ first .is in cc
 
   -- coverage's instants have their numbers
   pub start-number : instantNumber (instantOf (c .start)) ≡ c .start
-  start-number =
-      let e = ap (λ (x : Coverage). x .start) at-head in
-      let p = turned w64 (number coverageStart s 0) in
-      ap (λ (x : ℤ). instantNumber (instantOf x)) e ∙ number-placed p (let l = head s (k .accepted) not-empty .start-low in omega arith) ∙ sym e
+  start-number = number-back (turned w64 (number coverageStart s 0)) (ap (λ (x : Coverage). x .start) at-head) (omega (arith, first .start-low))
 
   pub end-number : instantNumber (instantOf (c .end)) ≡ c .end
-  end-number =
-      let e = ap (λ (x : Coverage). x .end) at-head in
-      let p = turned w64 (number coverageEnd s 0) in
-      ap (λ (x : ℤ). instantNumber (instantOf x)) e ∙ number-placed p (let l = head s (k .accepted) not-empty .end-low in omega arith) ∙ sym e
+  end-number = number-back (turned w64 (number coverageEnd s 0)) (ap (λ (x : Coverage). x .end) at-head) (omega (arith, first .end-low))

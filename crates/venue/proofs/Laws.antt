@@ -3,21 +3,21 @@ use mathlib.Core.Path.{_≡_, refl, sym, ap, _∙_}
 use mathlib.Core.List.{List, [], _∷_, map}
 use mathlib.Core.Option.{some}
 use Prim.Native.Nat.{ℕ, zero, suc, _≤_, _<_}
-use native.Mathlib.Nat.{le-of-suc-le-suc, lt-of-not-le}
-use native.Mathlib.Decide.{ℕ-discrete, decLe}
+use native.Mathlib.Nat.{le-of-suc-le-suc}
+use native.Mathlib.Decide.{ℕ-discrete}
 use native.Mathlib.Omega.{arith}
-use borrow.Author.Tests.{eqb-true, not-false}
 use lib.ListN.{length, getD}
 use Rattle.zone.specs.Answers.{Valid}
 use Rattle.records.specs.Limits.{base}
-use Rattle.records.specs.Records.{Coverage, Record, kindOf, coverageAt, ruleAt, eventAt, recordAt}
+use Rattle.records.specs.Records.{Coverage, Record, coverageAt, ruleAt, eventAt, recordAt}
 use Rattle.records.specs.Book.{kindAt, nextAt, many, refusal, recordsFrom, records}
 use Rattle.records.specs.Frame.{Framed}
 use Rattle.records.proofs.Frames.{Kind, one, two, three, four, kind-of, is-one, is-two, is-three, is-four}
 use Rattle.venue.specs.Opening.{offsetOf, coverageOf, rulesOf, eventsOf, atsOf, offsetsOf, placesFrom, places}
-use Rattle.venue.proofs.Passing.{Ahead, Next, ahead-start, ahead-next, no-turns, kind-here, no-records, no-places, one-record, one-place, no-place, places-many, few-records}
+use Rattle.venue.proofs.Passing.{Ahead, Next, ahead-start, by-records, no-records, no-places, one-record, one-place, no-place, places-many, few-records}
 use Rattle.venue.specs.Reading.{Listed, AllListed, GoodCoverage, GoodRule, GoodEvent}
 use Rattle.venue.proofs.Listing.{day-value, rule-fields, rule-each, rule-rises, event-fields, event-each}
+use Rattle.venue.proofs.Header.{head}
 use Rattle.venue.proofs.Changes.{Chain, covers-good, changes-valid}
 
 -- ---- a rule or event that is listed is good
@@ -73,18 +73,18 @@ abbrev EachListed : ℕ → List ℕ → List ℕ → Type 0
 EachListed k s [] = Unit {0}
 EachListed k s (p ∷ ps) = Listed k s p × EachListed k s ps
 
-listed-from : (k : ℕ) {s : List ℕ} (turns : ℕ) {at : ℕ} {before : List Record} → Ahead s at turns before → EachListed k s (placesFrom k s turns at)
-unfolding placesFrom
-listed-from k zero a = tt
-listed-from k {s} (suc g) {at} {before} a = go (λ h. listed-from k g (ahead-next a h .ahead)) (decLe (length s) at)
+listed-from : (k : ℕ) {s : List ℕ} (turns : ℕ) {at : ℕ} {before : List Record} → Ahead s at turns before
+    → EachListed k s (placesFrom k s turns at)
+listed-from k {s} =
+    by-records s (λ (turns at : ℕ) (before : List Record). EachListed k s (placesFrom k s turns at))
+    (λ turns at before h. rw (no-places s at k turns h) tt)
+    (λ g at before h n more. one g at h n more (ℕ-discrete (kindAt s at) k))
   where
-    by-kind : (h : at < length s) → EachListed k s (placesFrom k s g (nextAt s at)) → Dec (kindAt s at ≡ k) → EachListed k s (placesFrom k s (suc g) at)
-    by-kind h more (yes e) = rw (one-place s at g h k e) (listed-here (ahead-next a h) e, more)
-    by-kind h more (no e) = rw (no-place s at g h k e) more
-
-    go : ((h : at < length s) → EachListed k s (placesFrom k s g (nextAt s at))) → Dec (length s ≤ at) → EachListed k s (placesFrom k s (suc g) at)
-    go more (yes h) = rw (no-places s at k (suc g) h) tt
-    go more (no h) = by-kind (lt-of-not-le h) (more (lt-of-not-le h)) (ℕ-discrete (kindAt s at) k)
+    one : (g at : ℕ) (h : at < length s) {before : List Record} → Next s at g before → EachListed k s (placesFrom k s g (nextAt s at))
+        → Dec (kindAt s at ≡ k)
+        → EachListed k s (placesFrom k s (suc g) at)
+    one g at h n more (yes e) = rw (one-place s at g h k e) (listed-here n e, more)
+    one g at h n more (no e) = rw (no-place s at g h k e) more
 
 one-of : (k : ℕ) (s ps : List ℕ) → EachListed k s ps → (i : ℕ) → i < length ps → Listed k s (getD ps i 0)
 one-of k s [] a i h = absurd (omega arith)
@@ -102,24 +102,22 @@ module _ {A : Type 0} (k : ℕ) (s : List ℕ) (read : ℕ → A) (of : List Rec
     (one-of-kind : (at : ℕ) (rs : List Record) → Framed s at → kindAt s at ≡ k → of (recordAt s at ∷ rs) ≡ read at ∷ of rs)
     (one-of-other : (at : ℕ) (rs : List Record) → Framed s at → (kindAt s at ≡ k → ⊥) → of (recordAt s at ∷ rs) ≡ of rs)
   where
-    in-order : (turns : ℕ) {at : ℕ} {before : List Record} → Ahead s at turns before → map read (placesFrom k s turns at) ≡ of (recordsFrom s turns at)
-    unfolding placesFrom recordsFrom
-    in-order zero a = sym none-of
-    in-order (suc g) {at} {before} a = go (λ h. in-order g (ahead-next a h .ahead)) (decLe (length s) at)
-      where
-        by-kind : (h : at < length s) → map read (placesFrom k s g (nextAt s at)) ≡ of (recordsFrom s g (nextAt s at)) → Dec (kindAt s at ≡ k)
-            → map read (placesFrom k s (suc g) at) ≡ of (recordsFrom s (suc g) at)
-        by-kind h more (yes e) =
-            ap (map read) (one-place s at g h k e) ∙ ap (_∷_ (read at)) more
-            ∙ sym (ap of (one-record s at g h) ∙ one-of-kind at (recordsFrom s g (nextAt s at)) (ahead-next a h .frame) e)
-        by-kind h more (no e) =
-            ap (map read) (no-place s at g h k e) ∙ more
-            ∙ sym (ap of (one-record s at g h) ∙ one-of-other at (recordsFrom s g (nextAt s at)) (ahead-next a h .frame) e)
+    abbrev ReadSo : (turns at : ℕ) → Type 0
+    ReadSo turns at = map read (placesFrom k s turns at) ≡ of (recordsFrom s turns at)
 
-        go : ((h : at < length s) → map read (placesFrom k s g (nextAt s at)) ≡ of (recordsFrom s g (nextAt s at))) → Dec (length s ≤ at)
-            → map read (placesFrom k s (suc g) at) ≡ of (recordsFrom s (suc g) at)
-        go more (yes h) = ap (map read) (no-places s at k (suc g) h) ∙ sym (ap of (no-records s at (suc g) h) ∙ none-of)
-        go more (no h) = by-kind (lt-of-not-le h) (more (lt-of-not-le h)) (ℕ-discrete (kindAt s at) k)
+    in-order : (turns : ℕ) {at : ℕ} {before : List Record} → Ahead s at turns before → ReadSo turns at
+    in-order =
+        by-records s (λ (turns at : ℕ) (before : List Record). ReadSo turns at)
+        (λ turns at before h. ap (map read) (no-places s at k turns h) ∙ sym (ap of (no-records s at turns h) ∙ none-of))
+        (λ g at before h n more. one g at h (n .frame) more (ℕ-discrete (kindAt s at) k))
+      where
+        one : (g at : ℕ) → at < length s → Framed s at → ReadSo g (nextAt s at) → Dec (kindAt s at ≡ k) → ReadSo (suc g) at
+        one g at h f more (yes e) =
+            ap (map read) (one-place s at g h k e) ∙ ap (_∷_ (read at)) more
+            ∙ sym (ap of (one-record s at g h) ∙ one-of-kind at (recordsFrom s g (nextAt s at)) f e)
+        one g at h f more (no e) =
+            ap (map read) (no-place s at g h k e) ∙ more
+            ∙ sym (ap of (one-record s at g h) ∙ one-of-other at (recordsFrom s g (nextAt s at)) f e)
 
 module _ (s : List ℕ) (at : ℕ) (rs : List Record) (f : Framed s at) where
   abbrev kind-here-is : Kind (kindAt s at)
@@ -173,18 +171,13 @@ events-count s e = (places-many 4 (length s) (ahead-start s e), few-records 4 s 
 
 -- ---- the header and the clock changes
 
-chain-from : {s : List ℕ} (turns : ℕ) {at : ℕ} {before : List Record} → Ahead s at turns before → Chain before (recordsFrom s turns at)
-unfolding recordsFrom
-chain-from zero a = tt
-chain-from {s} (suc g) {at} {before} a = go (λ h. chain-from g (ahead-next a h .ahead)) (decLe (length s) at)
-  where
-    go : ((h : at < length s) → Chain (recordAt s at ∷ before) (recordsFrom s g (nextAt s at))) → Dec (length s ≤ at) → Chain before (recordsFrom s (suc g) at)
-    go more (yes h) = rw (no-records s at (suc g) h) tt
-    go more (no h) = rw (one-record s at g (lt-of-not-le h)) (ahead-next a (lt-of-not-le h) .passes, more (lt-of-not-le h))
-
 chain : (s : List ℕ) → refusal base s ≡ 0 → Chain [] (records s)
 unfolding records
-chain s e = chain-from (length s) (ahead-start s e)
+chain s e =
+    by-records s (λ (turns at : ℕ) (before : List Record). Chain before (recordsFrom s turns at))
+    (λ turns at before h. rw (no-records s at turns h) tt)
+    (λ g at before h n more. rw (one-record s at g h) (n .passes, more))
+    (length s) (ahead-start s e)
 
 pub good-coverage : (s : List ℕ) → refusal base s ≡ 0 → (c : Coverage) → coverageOf (records s) ≡ some c → GoodCoverage c
 good-coverage s e c q = covers-good (records s) (chain s e) c q
@@ -195,13 +188,5 @@ pub zone-valid : (s : List ℕ) → refusal base s ≡ 0 → (c : Coverage) → 
 zone-valid s e c q = changes-valid (records s) (chain s e) c q
 
 -- a book that is accepted and not empty begins with its coverage
-covered-by : (s : List ℕ) (turns : ℕ) → Ahead s 0 turns [] → 0 < length s → coverageOf (recordsFrom s turns 0) ≡ some (coverageAt s 0)
-covered-by s zero a h = absurd (no-turns a h)
-covered-by s (suc g) a h =
-    let n = ahead-next a h in
-    let k = sym (kind-here s 0 (n .frame)) ∙ eqb-true (kindOf (recordAt s 0)) 1 (not-false _ (n .passes .headed)) in
-    ap coverageOf (one-record s 0 g h) ∙ ap (λ (r : Record). coverageOf (r ∷ recordsFrom s g (nextAt s 0))) (is-one s 0 (kindAt s 0) (n .frame) refl k)
-
 pub covered : (s : List ℕ) → refusal base s ≡ 0 → (length s ≡ 0 → ⊥) → coverageOf (records s) ≡ some (coverageAt s 0)
-unfolding records
-covered s e n = covered-by s (length s) (ahead-start s e) (omega arith)
+covered s e n = head s e n .is

@@ -163,7 +163,8 @@ module _ {s : List ℕ} {p : ℕ} (l : Listed 3 s p) where
       let b = or-false ((badDays (r .first) (r .last) || ltb 3 (r .code)) || ltb 127 (r .mask)) _ (a .0) in
       let c = or-false (badDays (r .first) (r .last) || ltb 3 (r .code)) (ltb 127 (r .mask)) (b .0) in
       let d = or-false (badDays (r .first) (r .last)) (ltb 3 (r .code)) (c .0) in
-      let e = or-false ((eqb (r .code) 0 && not (eqb (r .label) 0)) || (not (eqb (r .code) 0) && not (eqb (r .mask) 0))) (badUncertainty (r .uncertainty)) (b .1) in
+      let weekly = eqb (r .code) 0 in
+      let e = or-false ((weekly && not (eqb (r .label) 0)) || (not weekly && not (eqb (r .mask) 0))) (badUncertainty (r .uncertainty)) (b .1) in
       record {
         dates-in = dates (turned w32 (number dayFirst s p)) (turned w32 (number dayLast s p)) (d .0) (ap reversed (sym is-rule) ∙ l .forward);
         code = ltb-false 3 (r .code) (d .1);
@@ -272,7 +273,8 @@ module _ {k : ℕ} {s : List ℕ} {p q : ℕ} (u : Uncertain k s p) (e : q ≡ t
   pub width-read : {x : ℕ} → x ≡ turned w64 (field 8 s (p + q + 1)) → half w64 ≤ x
   width-read z = rw (z ∙ ap (λ (i : ℕ). turned w64 (field 8 s i)) nanoseconds-place) (u .width)
 
-  pub told-read : {t x n : ℕ} → t ≡ field 1 s (p + q) → x ≡ turned w64 (field 8 s (p + q + 1)) → n ≡ field 2 s (p + q + 9) → told t x n ≡ publishedAt k s p
+  pub told-read : {t x n : ℕ} → t ≡ field 1 s (p + q) → x ≡ turned w64 (field 8 s (p + q + 1)) → n ≡ field 2 s (p + q + 9)
+      → told t x n ≡ publishedAt k s p
   told-read {t} {x} {n} a b c =
       ap₂ (λ (i j : ℕ). told i j n) (a ∙ ap (λ (i : ℕ). field 1 s (p + i)) e) (b ∙ ap (λ (i : ℕ). turned w64 (field 8 s i)) nanoseconds-place)
       ∙ ap (λ (i : ℕ). told (number (tag k) s p) (turned w64 (number (nanoseconds k) s p)) i) (c ∙ ap (field 2 s) text-place)

@@ -1,14 +1,14 @@
 -- A pass over an accepted book's records, and what it stores. Assumes nothing.
 use mathlib.Core.Path.{_≡_, refl, sym, ap, _∙_}
-use mathlib.Core.Bool.{false, cond}
-use mathlib.Core.List.{List, [], _∷_, map}
+use mathlib.Core.Bool.{false, not, cond}
+use mathlib.Core.List.{List, [], _∷_}
 use Prim.Native.Nat.{ℕ, zero, suc, _+_, _-_, _*_, _≤_, _<_}
-use native.Mathlib.Decide.{ℕ-discrete, decLt}
+use native.Mathlib.Nat.{lt-of-not-le}
+use native.Mathlib.Decide.{ℕ-discrete, decLe}
 use native.Mathlib.Omega.{arith}
 use borrow.Author.Tests.{le-leb, lt-leb, eq-eqb, ne-eqb, ltb-false}
-use lib.ListN.{length, set, length-set}
+use lib.ListN.{length, set, length-set, length-map}
 use lib.Dec.{ltb, eqb}
-use mathlib.Core.Bool.{not}
 use mir.Syntax.{w32, w64}
 use Rattle.wire.specs.Fields.{wrote}
 use Rattle.wire.specs.Signs.{half, meant, turned}
@@ -67,7 +67,8 @@ no-number n rest e = go (ℕ-discrete n 0)
 pub ahead-next : {s : List ℕ} {at turns : ℕ} {before : List Record} → Ahead s at (suc turns) before → at < length s → Next s at turns before
 unfolding numberFrom numberAt
 ahead-next {s} {at} {turns} {before} a h =
-    let p = no-number (numberAt base s at before) (numberFrom base s turns (nextAt s at) (recordAt s at ∷ before)) (simp (lt-leb (length s) at h) at (a .good)) in
+    let rest = numberFrom base s turns (nextAt s at) (recordAt s at ∷ before) in
+    let p = no-number (numberAt base s at before) rest (simp (lt-leb (length s) at h) at (a .good)) in
     let q = passed (badFrame s at) 2 _ (omega arith) (p .0) in
     let f = framed s at (q .0) in
     record {
@@ -84,6 +85,19 @@ ahead-next {s} {at} {turns} {before} a h =
 
 pub no-turns : {s : List ℕ} {at : ℕ} {before : List Record} → Ahead s at 0 before → at < length s → ⊥
 no-turns a h = let e = a .enough in omega arith
+
+-- what holds behind the last record, and of each if of those behind it, holds of all that are ahead
+module _ (s : List ℕ) (P : ℕ → ℕ → List Record → Type 0)
+    (behind : (turns at : ℕ) (before : List Record) → length s ≤ at → P turns at before)
+    (here : (turns at : ℕ) (before : List Record) → at < length s → Next s at turns before → P turns (nextAt s at) (recordAt s at ∷ before)
+    → P (suc turns) at before) where
+  pub by-records : (turns : ℕ) {at : ℕ} {before : List Record} → Ahead s at turns before → P turns at before
+  by-records zero {at} {before} a = behind zero at before (let e = a .enough in omega arith)
+  by-records (suc g) {at} {before} a = go (λ h. by-records g (ahead-next a h .ahead)) (decLe (length s) at)
+    where
+      go : (at < length s → P g (nextAt s at) (recordAt s at ∷ before)) → Dec (length s ≤ at) → P (suc g) at before
+      go more (yes h) = behind (suc g) at before h
+      go more (no h) = let l = lt-of-not-le h in here g at before l (ahead-next a l) (more l)
 
 -- ---- what is left
 
@@ -118,41 +132,31 @@ module _ (s : List ℕ) (at : ℕ) where
       pub no-many : (kindAt s at ≡ k → ⊥) → many k (recordsFrom s (suc turns) at) ≡ many k (recordsFrom s turns (nextAt s at))
       no-many e = ap (many k) one-record ∙ many-other k (recordAt s at) (recordsFrom s turns (nextAt s at)) (λ q. e (sym (kind-here s at f) ∙ q))
 
-le-of-not-lt : {a b : ℕ} → (a < b → ⊥) → b ≤ a
-le-of-not-lt h = omega arith
-
 -- as many places as records of the kind
-pub places-many : (k : ℕ) {s : List ℕ} (turns : ℕ) {at : ℕ} {before : List Record} → Ahead s at turns before
-    → length (placesFrom k s turns at) ≡ many k (recordsFrom s turns at)
-unfolding placesFrom recordsFrom
-places-many k zero a = refl
-places-many k {s} (suc g) {at} {before} a = go (λ h. places-many k g (ahead-next a h .ahead)) (decLt at (length s))
-  where
-    by-kind : (h : at < length s) → length (placesFrom k s g (nextAt s at)) ≡ many k (recordsFrom s g (nextAt s at)) → Dec (kindAt s at ≡ k)
-        → length (placesFrom k s (suc g) at) ≡ many k (recordsFrom s (suc g) at)
-    by-kind h more (yes e) = ap length (one-place s at g h k e) ∙ ap suc more ∙ sym (one-many s at g h (ahead-next a h .frame) k e)
-    by-kind h more (no e) = ap length (no-place s at g h k e) ∙ more ∙ sym (no-many s at g h (ahead-next a h .frame) k e)
+abbrev AsMany : (k : ℕ) (s : List ℕ) (turns at : ℕ) → Type 0
+AsMany k s turns at = length (placesFrom k s turns at) ≡ many k (recordsFrom s turns at)
 
-    go : ((h : at < length s) → length (placesFrom k s g (nextAt s at)) ≡ many k (recordsFrom s g (nextAt s at))) → Dec (at < length s)
-        → length (placesFrom k s (suc g) at) ≡ many k (recordsFrom s (suc g) at)
-    go more (yes h) = by-kind h (more h) (ℕ-discrete (kindAt s at) k)
-    go more (no h) = ap length (no-places s at k (suc g) (le-of-not-lt h)) ∙ sym (ap (many k) (no-records s at (suc g) (le-of-not-lt h)))
+pub places-many : (k : ℕ) {s : List ℕ} (turns : ℕ) {at : ℕ} {before : List Record} → Ahead s at turns before → AsMany k s turns at
+places-many k {s} =
+    by-records s (λ (turns at : ℕ) (before : List Record). AsMany k s turns at)
+    (λ turns at before h. ap length (no-places s at k turns h) ∙ sym (ap (many k) (no-records s at turns h)))
+    (λ g at before h n more. one g at h (n .frame) more (ℕ-discrete (kindAt s at) k))
+  where
+    one : (g at : ℕ) → at < length s → Framed s at → AsMany k s g (nextAt s at) → Dec (kindAt s at ≡ k) → AsMany k s (suc g) at
+    one g at h f more (yes e) = ap length (one-place s at g h k e) ∙ ap suc more ∙ sym (one-many s at g h f k e)
+    one g at h f more (no e) = ap length (no-place s at g h k e) ∙ more ∙ sym (no-many s at g h f k e)
 
 -- no more than the limit
-few-left : (k : ℕ) {s : List ℕ} (turns : ℕ) {at : ℕ} {before : List Record} → Ahead s at turns before → many k before ≤ most base k
-    → many k before + many k (recordsFrom s turns at) ≤ most base k
-unfolding recordsFrom
-few-left k zero a h = omega arith
-few-left k {s} (suc g) {at} {before} a h =
-    go (λ l. few-left k g (ahead-next a l .ahead) (many-room base k before (recordAt s at) (ahead-next a l .passes .few) h)) (decLt at (length s))
-  where
-    go : ((l : at < length s) → many k (recordAt s at ∷ before) + many k (recordsFrom s g (nextAt s at)) ≤ most base k) → Dec (at < length s)
-        → many k before + many k (recordsFrom s (suc g) at) ≤ most base k
-    go more (yes l) =
-        let e = ap (many k) (one-record s at g l) in
-        let m = many-moved k (recordAt s at) before (recordsFrom s g (nextAt s at)) in
-        omega (arith, more l)
-    go more (no l) = let e = ap (many k) (no-records s at (suc g) (le-of-not-lt l)) in omega arith
+abbrev Few : (k : ℕ) (s : List ℕ) (turns at : ℕ) (before : List Record) → Type 0
+Few k s turns at before = many k before ≤ most base k → many k before + many k (recordsFrom s turns at) ≤ most base k
+
+few-left : (k : ℕ) {s : List ℕ} (turns : ℕ) {at : ℕ} {before : List Record} → Ahead s at turns before → Few k s turns at before
+few-left k {s} =
+    by-records s (Few k s)
+    (λ turns at before h l. let e = ap (many k) (no-records s at turns h) in omega arith)
+    (λ g at before h n more l. let e = ap (many k) (one-record s at g h) in
+    let m = many-moved k (recordAt s at) before (recordsFrom s g (nextAt s at)) in
+    omega (arith, more (many-room base k before (recordAt s at) (n .passes .few) l)))
 
 pub few-records : (k : ℕ) (s : List ℕ) → refusal base s ≡ 0 → many k (records s) ≤ most base k
 unfolding records
@@ -167,10 +171,6 @@ transitions-many (transition t ∷ rs) = ap suc (transitions-many rs)
 transitions-many (rule r ∷ rs) = transitions-many rs
 transitions-many (event e ∷ rs) = transitions-many rs
 
-length-map : {A : Type 0} (f : A → ℕ) (xs : List A) → length (map f xs) ≡ length xs
-length-map f [] = refl
-length-map f (x ∷ xs) = ap suc (length-map f xs)
-
 -- ---- storing one number after the other
 
 -- vs are still to be stored, from place n on
@@ -182,7 +182,8 @@ pub record Storing (room now : List ℕ) (n : ℕ) (all vs : List ℕ) : Type 0 
 pub storing-start : (room all : List ℕ) → length all ≤ length room → Storing room room 0 all all
 storing-start room all h = record { same = refl; fits = omega arith; kept = refl }
 
-pub storing-one : {room now all : List ℕ} {n : ℕ} (v : ℕ) (vs : List ℕ) → Storing room now n all (v ∷ vs) → Storing room (set now n v) (n + 1) all vs
+pub storing-one : {room now all : List ℕ} {n : ℕ} (v : ℕ) (vs : List ℕ) → Storing room now n all (v ∷ vs)
+    → Storing room (set now n v) (n + 1) all vs
 storing-one {room} {now} {all} {n} v vs p =
     let l = length-set now n v in
     let f : n + suc (length vs) ≤ length now = p .fits in
@@ -220,7 +221,8 @@ module _ {k : ℕ} {s room now : List ℕ} {g at n : ℕ} (h : at < length s) (f
       let t = p .total in
       record { total = omega arith; storing = rw (no-place s at g h k e) at (p .storing) }
 
-place-end : {k : ℕ} {s room now : List ℕ} {turns at n : ℕ} → Placing k s room now turns at n → length s ≤ at → (n ≡ many k (records s)) × (now ≡ wrote room 0 (places k s))
+place-end : {k : ℕ} {s room now : List ℕ} {turns at n : ℕ} → Placing k s room now turns at n → length s ≤ at
+    → (n ≡ many k (records s)) × (now ≡ wrote room 0 (places k s))
 place-end {k} {s} {room} {now} {turns} {at} p h =
     let m = ap (many k) (no-records s at turns h) in
     let t = p .total in
@@ -234,24 +236,23 @@ module _ (s : List ℕ) (at turns : ℕ) (h : at < length s) (f : Framed s at) w
 
   one-change : kindAt s at ≡ 2 → transitionsOf (recordsFrom s (suc turns) at) ≡ transitionAt s at ∷ transitionsOf rest
   unfolding transitionsOf
-  one-change e = ap transitionsOf (one-record s at turns h) ∙ ap (λ (r : Record). transitionsOf (r ∷ rest)) (is-two s at (kindAt s at) f refl e)
+  one-change e = ap transitionsOf (one-record s at turns h) ∙ rw (is-two s at (kindAt s at) f refl e)
 
   no-change : (kindAt s at ≡ 2 → ⊥) → transitionsOf (recordsFrom s (suc turns) at) ≡ transitionsOf rest
   unfolding transitionsOf
   no-change n = ap transitionsOf (one-record s at turns h) ∙ go (kind-of s at (kindAt s at) f refl)
     where
       go : Kind (kindAt s at) → transitionsOf (recordAt s at ∷ rest) ≡ transitionsOf rest
-      go (one i) = ap (λ (r : Record). transitionsOf (r ∷ rest)) (is-one s at (kindAt s at) f refl i)
+      go (one i) = rw (is-one s at (kindAt s at) f refl i)
       go (two i) = absurd (n i)
-      go (three i) = ap (λ (r : Record). transitionsOf (r ∷ rest)) (is-three s at (kindAt s at) f refl i)
-      go (four i) = ap (λ (r : Record). transitionsOf (r ∷ rest)) (is-four s at (kindAt s at) f refl i)
+      go (three i) = rw (is-three s at (kindAt s at) f refl i)
+      go (four i) = rw (is-four s at (kindAt s at) f refl i)
 
 -- a clock change's fields are in their ranges
 pub record Ranged (s : List ℕ) (at : ℕ) : Type 0 where
   pub at-low : half w64 - 2208988800 ≤ turned w64 (number transitionInstant s at)
   pub at-high : turned w64 (number transitionInstant s at) ≤ half w64 + 7258118400
   pub offset-low : half w32 - 57600 ≤ turned w32 (number transitionOffset s at)
-  pub offset-high : turned w32 (number transitionOffset s at) ≤ half w32 + 57600
 
 pub ranged : (s : List ℕ) (at : ℕ) (before : List Record) → Framed s at → kindAt s at ≡ 2 → Passed base before (recordAt s at) → Ranged s at
 unfolding badFields meant
@@ -261,11 +262,12 @@ ranged s at before f e p =
     let o = or-false (not (inside seconds (transitionAt s at .at))) (not (inside offsets (transitionAt s at .offset))) z in
     let a = inside-range w64 (half w64 - 2208988800) (half w64 + 7258118400) (turned w64 (number transitionInstant s at)) (o .0) in
     let b = inside-range w32 (half w32 - 57600) (half w32 + 57600) (turned w32 (number transitionOffset s at)) (o .1) in
-    record { at-low = a .0; at-high = a .1; offset-low = b .0; offset-high = b .1 }
+    record { at-low = a .0; at-high = a .1; offset-low = b .0 }
 
 -- and so are kept as they are meant
 module _ {s : List ℕ} {at : ℕ} (r : Ranged s at) where
-  pub instant-kept : (p : ℕ) → p ≡ turned w64 (number transitionInstant s at) → (p - (half w64 - 2209593600)) * secondNs ≡ secondsInstant (transitionAt s at .at)
+  pub instant-kept : (p : ℕ) → p ≡ turned w64 (number transitionInstant s at)
+      → (p - (half w64 - 2209593600)) * secondNs ≡ secondsInstant (transitionAt s at .at)
   instant-kept p e =
       let l = r .at-low in
       ap (λ (i : ℕ). (i - (half w64 - 2209593600)) * secondNs) e
@@ -283,10 +285,10 @@ pub record Changing (s ats ats′ offsets offsets′ : List ℕ) (turns at n : �
   pub to-offsets : Storing offsets offsets′ n (offsetsOf (records s)) (offsetsOf (recordsFrom s turns at))
 
 pub ats-many : (rs : List Record) → length (atsOf rs) ≡ many 2 rs
-ats-many rs = length-map _ (transitionsOf rs) ∙ transitions-many rs
+ats-many rs = length-map (transitionsOf rs) _ ∙ transitions-many rs
 
 pub offsets-many : (rs : List Record) → length (offsetsOf rs) ≡ many 2 rs
-offsets-many rs = length-map _ (transitionsOf rs) ∙ transitions-many rs
+offsets-many rs = length-map (transitionsOf rs) _ ∙ transitions-many rs
 
 change-start : (s ats offsets : List ℕ) → refusal base s ≡ 0 → base .transitions ≤ length ats → base .transitions ≤ length offsets
     → Changing s ats ats offsets offsets (length s) 0 0
@@ -299,7 +301,8 @@ change-start s ats offsets e l m =
       to-offsets = storing-start offsets (offsetsOf (records s)) (omega (arith, offsets-many (records s)));
     }
 
-module _ {s ats ats′ offsets offsets′ : List ℕ} {g at n : ℕ} (h : at < length s) (f : Framed s at) (p : Changing s ats ats′ offsets offsets′ (suc g) at n) where
+module _ {s ats ats′ offsets offsets′ : List ℕ} {g at n : ℕ} (h : at < length s) (f : Framed s at)
+    (p : Changing s ats ats′ offsets offsets′ (suc g) at n) where
   change-room : kindAt s at ≡ 2 → (n < length ats′) × (n < length offsets′)
   change-room e =
       let o = one-many s at g h f 2 e in
@@ -310,29 +313,33 @@ module _ {s ats ats′ offsets offsets′ : List ℕ} {g at n : ℕ} (h : at < l
       (omega arith, omega arith)
 
   change-one : kindAt s at ≡ 2
-      → Changing s ats (set ats′ n (secondsInstant (transitionAt s at .at))) offsets (set offsets′ n (offsetOf (transitionAt s at .offset))) g (nextAt s at) (n + 1)
+      → let t = transitionAt s at in
+      Changing s ats (set ats′ n (secondsInstant (t .at))) offsets (set offsets′ n (offsetOf (t .offset))) g (nextAt s at) (n + 1)
   change-one e =
       let o = one-many s at g h f 2 e in
       let t = p .total in
+      let z = one-change s at g h f e in
       record {
         total = omega arith;
-        to-ats = storing-one _ _ (rw (one-change s at g h f e) at (p .to-ats));
-        to-offsets = storing-one _ _ (rw (one-change s at g h f e) at (p .to-offsets));
+        to-ats = storing-one _ _ (rw z at (p .to-ats));
+        to-offsets = storing-one _ _ (rw z at (p .to-offsets));
       }
 
   change-none : (kindAt s at ≡ 2 → ⊥) → Changing s ats ats′ offsets offsets′ g (nextAt s at) n
   change-none e =
       let o = no-many s at g h f 2 e in
       let t = p .total in
-      record { total = omega arith; to-ats = rw (no-change s at g h f e) at (p .to-ats); to-offsets = rw (no-change s at g h f e) at (p .to-offsets) }
+      let z = no-change s at g h f e in
+      record { total = omega arith; to-ats = rw z at (p .to-ats); to-offsets = rw z at (p .to-offsets) }
 
 change-end : {s ats ats′ offsets offsets′ : List ℕ} {turns at n : ℕ} → Changing s ats ats′ offsets offsets′ turns at n → length s ≤ at
     → (n ≡ many 2 (records s)) × (ats′ ≡ wrote ats 0 (atsOf (records s))) × (offsets′ ≡ wrote offsets 0 (offsetsOf (records s)))
 unfolding transitionsOf
 change-end {s} {ats} {ats′} {offsets} {offsets′} {turns} {at} p h =
-    let m = ap (many 2) (no-records s at turns h) in
+    let z = no-records s at turns h in
+    let m = ap (many 2) z in
     let t = p .total in
-    (omega arith, storing-end (rw (no-records s at turns h) at (p .to-ats)), storing-end (rw (no-records s at turns h) at (p .to-offsets)))
+    (omega arith, storing-end (rw z at (p .to-ats)), storing-end (rw z at (p .to-offsets)))
 
 -- ---- all of them in one pass
 
@@ -344,7 +351,8 @@ pub record Passing (s ats ats′ offsets offsets′ rules rules′ events events
   pub ruling : Placing 3 s rules rules′ turns at rule
   pub eventing : Placing 4 s events events′ turns at event
 
-pub pass-start : (s ats offsets rules events : List ℕ) → Fitting s ats offsets rules events → Passing s ats ats offsets offsets rules rules events events 0 0 0 0
+pub pass-start : (s ats offsets rules events : List ℕ) → Fitting s ats offsets rules events
+    → Passing s ats ats offsets offsets rules rules events events 0 0 0 0
 pass-start s ats offsets rules events f =
     record {
       turns = length s;
@@ -367,11 +375,13 @@ pub record Standing (s ats ats′ offsets offsets′ rules rules′ events event
   pub eventing : Placing 4 s events events′ (suc turns) at event
 
 module _ {s ats ats′ offsets offsets′ rules rules′ events events′ : List ℕ} {at change rule event : ℕ} where
-  stand-by : (turns : ℕ) {before : List Record} → Ahead s at turns before → at < length s → Changing s ats ats′ offsets offsets′ turns at change
+  stand-by : (turns : ℕ) {before : List Record} → Ahead s at turns before → at < length s
+      → Changing s ats ats′ offsets offsets′ turns at change
       → Placing 3 s rules rules′ turns at rule → Placing 4 s events events′ turns at event
       → Standing s ats ats′ offsets offsets′ rules rules′ events events′ at change rule event
   stand-by zero a h c r e = absurd (no-turns a h)
-  stand-by (suc g) a h c r e = record { turns = g; before = _; next = ahead-next a h; inside = h; small = a .small; changing = c; ruling = r; eventing = e }
+  stand-by (suc g) a h c r e =
+      record { turns = g; before = _; next = ahead-next a h; inside = h; small = a .small; changing = c; ruling = r; eventing = e }
 
   pub standing : Passing s ats ats′ offsets offsets′ rules rules′ events events′ at change rule event → at < length s
       → Standing s ats ats′ offsets offsets′ rules rules′ events events′ at change rule event
@@ -380,10 +390,6 @@ module _ {s ats ats′ offsets offsets′ rules rules′ events events′ : List
   module _ (p : Standing s ats ats′ offsets offsets′ rules rules′ events events′ at change rule event) where
     abbrev pub frame : Framed s at
     frame = p .next .frame
-
-    -- another kind than k
-    other : (k : ℕ) {j : ℕ} → kindAt s at ≡ j → (j ≡ k → ⊥) → kindAt s at ≡ k → ⊥
-    other k e n q = n (sym e ∙ q)
 
     pub range : kindAt s at ≡ 2 → Ranged s at
     range e = ranged s at (p .before) frame e (p .next .passes)
@@ -397,57 +403,40 @@ module _ {s ats ats′ offsets offsets′ rules rules′ events events′ : List
     pub room-event : kindAt s at ≡ 4 → event < length events′
     room-event e = place-room (p .inside) frame (p .eventing) e
 
-    -- behind a record of each kind
+    skip-change : (kindAt s at ≡ 2 → ⊥) → Changing s ats ats′ offsets offsets′ (p .turns) (nextAt s at) change
+    skip-change = change-none (p .inside) frame (p .changing)
+
+    skip-rule : (kindAt s at ≡ 3 → ⊥) → Placing 3 s rules rules′ (p .turns) (nextAt s at) rule
+    skip-rule = place-none (p .inside) frame (p .ruling)
+
+    skip-event : (kindAt s at ≡ 4 → ⊥) → Placing 4 s events events′ (p .turns) (nextAt s at) event
+    skip-event = place-none (p .inside) frame (p .eventing)
+
+    -- behind a record, by what was stored of it
     module _ {next : ℕ} (to : next ≡ nextAt s at) where
+      pass : {ats″ offsets″ rules″ events″ : List ℕ} {c r e : ℕ} → Changing s ats ats″ offsets offsets″ (p .turns) (nextAt s at) c
+          → Placing 3 s rules rules″ (p .turns) (nextAt s at) r → Placing 4 s events events″ (p .turns) (nextAt s at) e
+          → Passing s ats ats″ offsets offsets″ rules rules″ events events″ next c r e
+      pass x y z =
+          let before = recordAt s at ∷ p .before in
+          rw to (record { turns = p .turns; before = before; ahead = p .next .ahead; changing = x; ruling = y; eventing = z })
+
       pub pass-change : kindAt s at ≡ 2 → {a o : ℕ} → a ≡ secondsInstant (transitionAt s at .at) → o ≡ offsetOf (transitionAt s at .offset)
           → Passing s ats (set ats′ change a) offsets (set offsets′ change o) rules rules′ events events′ next (change + 1) rule event
       pass-change e a o =
-          rw (to, a, o)
-          (record {
-            turns = p .turns;
-            before = recordAt s at ∷ p .before;
-            ahead = p .next .ahead;
-            changing = change-one (p .inside) frame (p .changing) e;
-            ruling = place-none (p .inside) frame (p .ruling) (other 3 e (λ q. omega arith));
-            eventing = place-none (p .inside) frame (p .eventing) (other 4 e (λ q. omega arith));
-          })
+          rw (a, o) (pass (change-one (p .inside) frame (p .changing) e) (skip-rule (λ q. omega arith)) (skip-event (λ q. omega arith)))
 
-      pub pass-rule : kindAt s at ≡ 3 → Passing s ats ats′ offsets offsets′ rules (set rules′ rule at) events events′ next change (rule + 1) event
-      pass-rule e =
-          rw to
-          (record {
-            turns = p .turns;
-            before = recordAt s at ∷ p .before;
-            ahead = p .next .ahead;
-            changing = change-none (p .inside) frame (p .changing) (other 2 e (λ q. omega arith));
-            ruling = place-one (p .inside) frame (p .ruling) e;
-            eventing = place-none (p .inside) frame (p .eventing) (other 4 e (λ q. omega arith));
-          })
+      pub pass-rule : kindAt s at ≡ 3
+          → Passing s ats ats′ offsets offsets′ rules (set rules′ rule at) events events′ next change (rule + 1) event
+      pass-rule e = pass (skip-change (λ q. omega arith)) (place-one (p .inside) frame (p .ruling) e) (skip-event (λ q. omega arith))
 
-      pub pass-event : kindAt s at ≡ 4 → Passing s ats ats′ offsets offsets′ rules rules′ events (set events′ event at) next change rule (event + 1)
-      pass-event e =
-          rw to
-          (record {
-            turns = p .turns;
-            before = recordAt s at ∷ p .before;
-            ahead = p .next .ahead;
-            changing = change-none (p .inside) frame (p .changing) (other 2 e (λ q. omega arith));
-            ruling = place-none (p .inside) frame (p .ruling) (other 3 e (λ q. omega arith));
-            eventing = place-one (p .inside) frame (p .eventing) e;
-          })
+      pub pass-event : kindAt s at ≡ 4
+          → Passing s ats ats′ offsets offsets′ rules rules′ events (set events′ event at) next change rule (event + 1)
+      pass-event e = pass (skip-change (λ q. omega arith)) (skip-rule (λ q. omega arith)) (place-one (p .inside) frame (p .eventing) e)
 
       pub pass-other : (kindAt s at ≡ 2 → ⊥) → (kindAt s at ≡ 3 → ⊥) → (kindAt s at ≡ 4 → ⊥)
           → Passing s ats ats′ offsets offsets′ rules rules′ events events′ next change rule event
-      pass-other a b c =
-          rw to
-          (record {
-            turns = p .turns;
-            before = recordAt s at ∷ p .before;
-            ahead = p .next .ahead;
-            changing = change-none (p .inside) frame (p .changing) a;
-            ruling = place-none (p .inside) frame (p .ruling) b;
-            eventing = place-none (p .inside) frame (p .eventing) c;
-          })
+      pass-other a b c = pass (skip-change a) (skip-rule b) (skip-event c)
 
   -- behind the last record
   pub pass-end : Passing s ats ats′ offsets offsets′ rules rules′ events events′ at change rule event → length s ≤ at

@@ -15,7 +15,7 @@ use Rattle.zone.specs.Zone.{Zone, changesOf}
 use Rattle.zone.specs.Answers.{After, Spaced, Valid}
 use Rattle.zone.specs.Private.{Passed}
 use Rattle.zone.specs.Throughout.{readsOn, readsAround, readsChanges, readsThroughout}
-use Rattle.zone.proofs.Offsets.{first-least}
+use Rattle.zone.proofs.Offsets.{first-least, last-rest}
 use Rattle.zone.proofs.Validity.{Begins}
 
 -- what is left of a list from the k-th on begins with the k-th
@@ -44,10 +44,6 @@ spaced-left zero ats s = s
 spaced-left (suc k) [] s = tt
 spaced-left (suc k) (x ∷ ats) s = spaced-left k ats (s .1)
 
-passed-left : (t x k : ℕ) (ats : List ℕ) → getD (x ∷ ats) k 0 ≤ t → getD (0 ∷ ats) k 0 ≤ t
-passed-left t x zero ats h = omega arith
-passed-left t x (suc k) ats h = h
-
 module _ (z : Zone) (d a b : ℕ) where
   around-early : (at : ℕ) → at ≤ a → readsAround z d a b at ≡ true
   around-early at h = simp (le-ltb a at h)
@@ -66,7 +62,7 @@ module _ (z : Zone) (d a b : ℕ) where
   early-changes (suc k) (x ∷ ats) [] s e h l = absurd (omega arith)
   early-changes (suc k) (x ∷ ats) (o ∷ os) s e h l =
       rw (around-early x (omega (arith, first-least x ats k s h, l)))
-      (early-changes k ats os (s .1) (suc-inj e) (le-of-suc-le-suc h) (passed-left a x k ats l))
+      (early-changes k ats os (s .1) (suc-inj e) (le-of-suc-le-suc h) (last-rest a x k ats l))
 
   late-changes : (ats os : List ℕ) → Spaced ats → Begins b ats → readsChanges z d a b (changesOf ats os) ≡ true
   unfolding readsChanges
@@ -81,7 +77,8 @@ module _ (z : Zone) (d a b : ℕ) where
 
 module _ {z : Zone} {d a b first : ℕ} {ats os : List ℕ} (ok : Valid first ats os) {k : ℕ} where
   pub ahead-passed : Passed ats a k → Ahead z d a b ats os k
-  ahead-passed p = record { next = begins-later a k ats (p .next); same = early-changes z d a b k ats os (ok .spaced) (ok .alike) (p .most) (p .last) }
+  ahead-passed p =
+      record { next = begins-later a k ats (p .next); same = early-changes z d a b k ats os (ok .spaced) (ok .alike) (p .most) (p .last) }
 
   module _ (n : Ahead z d a b ats os k) where
     pub ahead-end : length ats ≤ k → k ≤ length ats → readsChanges z d a b (changesOf ats os) ≡ true

@@ -37,7 +37,7 @@ same-offset : (t o : ℕ) (ats os : List ℕ) → Spaced ats → Beyond t ats �
 unfolding lastOffset
 same-offset t o [] os s b = refl
 same-offset t o (a ∷ ats) [] s b = refl
-same-offset t o (a ∷ ats) (p ∷ os) s b = to-come o a p t ats os b ∙ (same-offset t o ats os (s .1) (beyond-next t a ats (s .0) (omega arith)))
+same-offset t o (a ∷ ats) (p ∷ os) s b = to-come o a p t ats os b ∙ same-offset t o ats os (s .1) (beyond-next t a ats (s .0) (omega arith))
 
 -- the first of spaced instants is not later than another
 pub first-least : (a : ℕ) (ats : List ℕ) (k : ℕ) → Spaced (a ∷ ats) → k < length (a ∷ ats) → a ≤ getD (a ∷ ats) k 0
@@ -45,21 +45,26 @@ first-least a ats zero s h = omega arith
 first-least a [] (suc k) s h = absurd (not-suc-le-zero (le-of-suc-le-suc h))
 first-least a (b ∷ ats) (suc k) s h = let on = first-least b ats k (s .1) (le-of-suc-le-suc h) in omega arith
 
+-- of the rest of a list, whose first has passed
+pub last-rest : (t x k : ℕ) (ats : List ℕ) → getD (x ∷ ats) k 0 ≤ t → getD (0 ∷ ats) k 0 ≤ t
+last-rest t x zero ats h = omega arith
+last-rest t x (suc k) ats h = h
+
+pub passed-rest : (t k x : ℕ) (ats : List ℕ) → Passed (x ∷ ats) t (suc k) → Passed ats t k
+passed-rest t k x ats p = record { most = le-of-suc-le-suc (p .most); last = last-rest t x k ats (p .last); next = p .next }
+
 -- the offset once k transitions have passed
-pub offset-passed : (t o k : ℕ) (ats os : List ℕ) → Spaced ats → length ats ≡ length os → Passed ats t k → lastOffset o (changesOf ats os) t ≡ getD (o ∷ os) k 0
+pub offset-passed : (t o k : ℕ) (ats os : List ℕ) → Spaced ats → length ats ≡ length os → Passed ats t k
+    → lastOffset o (changesOf ats os) t ≡ getD (o ∷ os) k 0
 unfolding lastOffset
 offset-passed t o zero [] os s e p = refl
 offset-passed t o (suc k) [] os s e p = absurd (not-suc-le-zero (p .most))
 offset-passed t o k (a ∷ ats) [] s e p = absurd (omega arith)
 offset-passed t o zero (a ∷ ats) (q ∷ os) s e p =
-    to-come o a q t ats os (p .next) ∙ (same-offset t o ats os (s .1) (beyond-next t a ats (s .0) (omega (arith, p .next))))
+    to-come o a q t ats os (p .next) ∙ same-offset t o ats os (s .1) (beyond-next t a ats (s .0) (omega (arith, p .next)))
 offset-passed t o (suc k) (a ∷ ats) (q ∷ os) s e p =
     let h : a ≤ t = omega (arith, first-least a ats k s (p .most), p .last) in
-    passed-by o a q t ats os h ∙ (offset-passed t q k ats os (s .1) (suc-inj e) (record { most = le-of-suc-le-suc (p .most); last = shifted k (p .last); next = p .next }))
-  where
-    shifted : (j : ℕ) → getD (a ∷ ats) j 0 ≤ t → getD (0 ∷ ats) j 0 ≤ t
-    shifted zero h = omega arith
-    shifted (suc j) h = h
+    passed-by o a q t ats os h ∙ offset-passed t q k ats os (s .1) (suc-inj e) (passed-rest t k a ats p)
 
 -- offsets are in their range
 each-offset : (b o : ℕ) (ats os : List ℕ) (t : ℕ) → o ≤ b → Each 0 b os → lastOffset o (changesOf ats os) t ≤ b
@@ -82,7 +87,8 @@ pub record Turn (z : Zone) (u v at : ℕ) : Type 0 where
   pub until : (t : ℕ) → u ≤ t → t ≤ v → t < at → offsetAt z t ≡ offsetAt z u
   pub since : (t : ℕ) → u ≤ t → t ≤ v → at ≤ t → offsetAt z t ≡ offsetAt z v
 
-steady : (o : ℕ) (ats os : List ℕ) (u v : ℕ) → u ≤ v → ((t : ℕ) → t ≤ v → lastOffset o (changesOf ats os) t ≡ o) → Turn (zoneOf o ats os) u v u
+steady : (o : ℕ) (ats os : List ℕ) (u v : ℕ) → u ≤ v → ((t : ℕ) → t ≤ v → lastOffset o (changesOf ats os) t ≡ o)
+    → Turn (zoneOf o ats os) u v u
 steady o ats os u v h f =
     record { until = λ t a b l. absurd (omega arith); since = λ t a b l. f t b ∙ sym (f v (omega arith)) }
 
@@ -101,7 +107,8 @@ turn o (a ∷ ats) (p ∷ os) u v s h l = go (decLe a u) (decLe a v) (turn p ats
       },
     )
     go (no late) (yes within) on =
-        let rest : (t : ℕ) → t ≤ v → lastOffset p (changesOf ats os) t ≡ p = λ t y. same-offset t p ats os (s .1) (beyond-next t a ats (s .0) (omega arith)) in
+        let rest : (t : ℕ) → t ≤ v → lastOffset p (changesOf ats os) t ≡ p =
+        λ t y. same-offset t p ats os (s .1) (beyond-next t a ats (s .0) (omega arith)) in
         let none-yet : (t : ℕ) → t < a → lastOffset o (changesOf (a ∷ ats) (p ∷ os)) t ≡ o = λ t m. same-offset t o (a ∷ ats) (p ∷ os) s m in (
           a,
           record {

@@ -51,7 +51,8 @@ between-all ats t h =
     let past = List·getD-eq-default ats (2 ^ 64) (le-refl (length ats)) in
     record { order = omega arith; most = omega arith; last = omega arith; next = rw past h }
 
-pub between-one : (ats : List ℕ) (t k last next : ℕ) → k < length ats → last ≡ getD (0 ∷ ats) k 0 → next ≡ getD ats (k + 1) 18446744073709551615
+pub between-one : (ats : List ℕ) (t k last next : ℕ) → k < length ats → last ≡ getD (0 ∷ ats) k 0
+    → next ≡ getD ats (k + 1) 18446744073709551615
     → (leb last t && ltb t next) ≡ true → Between ats t k (k + 1)
 between-one ats t k last next h e f g =
     let both = and-true (leb last t) (ltb t next) g in
@@ -100,7 +101,8 @@ module _ (first : ℕ) (ats os : List ℕ) (ok : Valid first ats os) (x k : ℕ)
       (λ t a b. offset-by t k (passed-still ats (x - mostNs) k p t a (omega arith)))
 
   -- the next one stands near
-  pub one-near : x + mostNs < 2 ^ 64 → k < length ats → getD ats k 0 ≤ x + mostNs → resolve z x ≡ around (getD ats k 0) (instantBy o x) (instantBy (getD os k 0) x)
+  pub one-near : x + mostNs < 2 ^ 64 → k < length ats → getD ats k 0 ≤ x + mostNs
+      → resolve z x ≡ around (getD ats k 0) (instantBy o x) (instantBy (getD os k 0) x)
   one-near f h l =
       let at = getD ats k 0 in
       let u = x - mostNs in

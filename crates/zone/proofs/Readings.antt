@@ -26,7 +26,8 @@ Among t (Gap d) = ⊥
 clear-by : (s t : ℕ) → s ≡ t → _≡_ {A = Resolution} (Clear (record { 0 = s })) (Clear (record { 0 = t }))
 clear-by s t e = cc
 
-doubt-by : (a a′ b b′ : ℕ) → a ≡ a′ → b ≡ b′ → _≡_ {A = Doubt} (record { before = record { 0 = a }; after = record { 0 = b } }) (record { before = record { 0 = a′ }; after = record { 0 = b′ } })
+doubt-by : (a a′ b b′ : ℕ) → a ≡ a′ → b ≡ b′
+    → _≡_ {A = Doubt} (record { before = record { 0 = a }; after = record { 0 = b } }) (record { before = record { 0 = a′ }; after = record { 0 = b′ } })
 doubt-by a a′ b b′ p q = cc
 
 -- a shift keeps order
@@ -34,7 +35,8 @@ pub shift-order : (o x y : ℕ) → x ≤ y → instantBy o x ≤ instantBy o y
 shift-order o x y h = omega arith
 
 -- two instants beside a change, by whether they read the reading they were made from
-decided : (r s e : Bool) (at a b : ℕ) → eqb a b ≡ e → (a < at → r ≡ true) → (at ≤ a → r ≡ true → a ≡ b) → (at ≤ b → s ≡ true) → (b < at → s ≡ true → a ≡ b)
+decided : (r s e : Bool) (at a b : ℕ) → eqb a b ≡ e → (a < at → r ≡ true) → (at ≤ a → r ≡ true → a ≡ b) → (at ≤ b → s ≡ true)
+    → (b < at → s ≡ true → a ≡ b)
     → resolved r s e a b ≡ around at a b
 decided r s e at a b k f f′ g g′ = go (decLt a at) (decLe at b)
   where
@@ -46,7 +48,8 @@ decided r s e at a b k f f′ g g′ = go (decLt a at) (decLe at b)
     first-only r false e k i h l m = simp (i, lt-ltb a at l, lt-leb at b m)
 
     second-only : (r s e : Bool) → eqb a b ≡ e → s ≡ true → (r ≡ true → a ≡ b) → at ≤ a → at ≤ b → resolved r s e a b ≡ around at a b
-    second-only true s e k j h l m = simp (j, sym k, eq-eqb a b (h refl), le-ltb a at l, le-leb at b m) (ap (λ (t : ℕ). Clear (record { 0 = t })) (h refl))
+    second-only true s e k j h l m =
+        simp (j, sym k, eq-eqb a b (h refl), le-ltb a at l, le-leb at b m) (ap (λ (t : ℕ). Clear (record { 0 = t })) (h refl))
     second-only false s e k j h l m = simp (j, le-ltb a at l, le-leb at b m)
 
     neither : (r s e : Bool) → (r ≡ true → a ≡ b) → (s ≡ true → a ≡ b) → at ≤ a → b < at → resolved r s e a b ≡ around at a b
@@ -121,6 +124,9 @@ module _ (first : ℕ) (ats os : List ℕ) (ok : Valid first ats os) (x : ℕ) (
   unread : (t : ℕ) → reads z t x ≡ false → Reads z t x → ⊥
   unread t e r = eqb-false _ _ e r
 
+  none-at : {s t : ℕ} → reads z s x ≡ false → Reads z t x → t ≡ s → ⊥
+  none-at {s} e r h = unread s e (subst (λ (y : ℕ). Reads z y x) h r)
+
   -- where they are two, one stands before the change and one from it on
   fold-order : (a ≡ b → ⊥) → Reads z a x → Reads z b x → a < b
   fold-order n p q = go (decLt a (change .0)) (decLt b (change .0))
@@ -148,7 +154,12 @@ module _ (first : ℕ) (ats os : List ℕ) (ok : Valid first ats os) (x : ℕ) (
       let order = gap-order p q in
       let was = change .1 .until (at - 1) (omega (arith, after-near .0)) (omega (arith, before-near .1)) (omega arith) in
       let now = change .1 .since at (omega (arith, after-near .0)) (omega (arith, before-near .1)) (omega arith) in
-      record { by-before = ap (λ (o : ℕ). instantBy o x) (sym was); by-after = ap (λ (o : ℕ). instantBy o x) (sym now); late = order .0; early = order .1 }
+      record {
+        by-before = ap (λ (o : ℕ). instantBy o x) (sym was);
+        by-after = ap (λ (o : ℕ). instantBy o x) (sym now);
+        late = order .0;
+        early = order .1;
+      }
 
   pub resolve-means : Means z x (resolve z x)
   unfolding resolve
@@ -157,12 +168,9 @@ module _ (first : ℕ) (ats os : List ℕ) (ok : Valid first ats os) (x : ℕ) (
       go : (r s e : Bool) → reads z a x ≡ r → reads z b x ≡ s → eqb a b ≡ e → Means z x (resolved r s e a b)
       go true true true i j k = let one = eqb-true a b k in (read a i, λ t r. ⊎-elim (λ h. h) (λ h. h ∙ sym one) (never-more t r))
       go true true false i j k = (fold-order (eqb-false a b k) (read a i) (read b j), read a i, read b j, never-more)
-      go true false e i j k = (read a i, λ t r. ⊎-elim (λ h. h) (λ h. absurd (unread b j (subst (λ (y : ℕ). Reads z y x) h r))) (never-more t r))
-      go false true e i j k = (read b j, λ t r. ⊎-elim (λ h. absurd (unread a i (subst (λ (y : ℕ). Reads z y x) h r))) (λ h. h) (never-more t r))
-      go false false e i j k = (
-        λ t r. ⊎-elim (λ h. unread a i (subst (λ (y : ℕ). Reads z y x) h r)) (λ h. unread b j (subst (λ (y : ℕ). Reads z y x) h r)) (never-more t r),
-        (change .0, skipped (unread a i) (unread b j)),
-      )
+      go true false e i j k = (read a i, λ t r. ⊎-elim (λ h. h) (λ h. absurd (none-at j r h)) (never-more t r))
+      go false true e i j k = (read b j, λ t r. ⊎-elim (λ h. absurd (none-at i r h)) (λ h. h) (never-more t r))
+      go false false e i j k = (λ t r. ⊎-elim (none-at i r) (none-at j r) (never-more t r), (change .0, skipped (unread a i) (unread b j)))
 
   -- ---- around one transition
 
@@ -224,9 +232,11 @@ module _ (first : ℕ) (ats os : List ℕ) (ok : Valid first ats os) (x : ℕ) (
 
       go : Dec (at < change .0) → Dec (change .0 < at) → (u < at) × (at ≤ v) → at ≡ change .0
       go (yes l) d n =
-          absurd (apart (change .1 .until (at - 1) (omega arith) (omega arith) (omega arith) ∙ sym (change .1 .until at (omega arith) (n .1) l)))
+          let before = change .1 .until (at - 1) (omega arith) (omega arith) (omega arith) in
+          absurd (apart (before ∙ sym (change .1 .until at (omega arith) (n .1) l)))
       go (no l) (yes m) n =
-          absurd (apart (change .1 .since (at - 1) (omega arith) (omega arith) (omega arith) ∙ sym (change .1 .since at (omega arith) (n .1) (omega arith))))
+          let before = change .1 .since (at - 1) (omega arith) (omega arith) (omega arith) in
+          absurd (apart (before ∙ sym (change .1 .since at (omega arith) (n .1) (omega arith))))
       go (no l) (no m) n = omega arith
 
   pub means-once : (r s : Resolution) → Means z x r → Means z x s → r ≡ s

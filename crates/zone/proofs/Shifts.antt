@@ -15,12 +15,12 @@ use Rattle.zone.specs.Zone.{Change, Zone, changesOf, zoneOf, lastOffset,
 use Rattle.zone.specs.Answers.{After, Spaced, Valid, boundary, boundaryAt}
 use Rattle.zone.specs.Private.{Passed}
 use Rattle.zone.specs.Steady.{marginNs, firstSteady, lastSteady, noneWithin, steadyOf, dayBy, midnightBy, OnWall, DayOnWall}
-use Rattle.zone.specs.declared.Boundary.{Boundary}
 use Rattle.zone.specs.declared.Resolution.{Resolution}
 use Rattle.zone.specs.declared.Uncertainty.{Uncertainty}
 use Rattle.zone.specs.declared.steady.Steady.{Steady}
 use Rattle.zone.specs.declared.steady.Steady.the-variants.{No, By}
-use Rattle.zone.proofs.Offsets.{first-least, offset-most}
+use Rattle.zone.proofs.Boundaries.{boundary-of}
+use Rattle.zone.proofs.Offsets.{first-least, passed-rest, offset-most}
 use Rattle.zone.proofs.Readings.{resolve-steady}
 
 -- ---- the test, as the code makes it: k transitions have passed at a
@@ -39,15 +39,8 @@ next-later : (b x : ℕ) (ats : List ℕ) → After x ats → b < x → b < 2 ^ 
 next-later b x [] s h f = f
 next-later b x (y ∷ ats) s h f = omega arith
 
--- of the rest, where one or none has passed
-passed-rest : (a k x : ℕ) (ats : List ℕ) → Passed (x ∷ ats) a (suc k) → Passed ats a k
-passed-rest a k x ats p = record { most = le-of-suc-le-suc (p .most); last = shifted k (p .last); next = p .next }
-  where
-    shifted : (j : ℕ) → getD (x ∷ ats) j 0 ≤ a → getD (0 ∷ ats) j 0 ≤ a
-    shifted zero h = omega arith
-    shifted (suc j) h = h
-
-pub none-true : (a b k : ℕ) (ats os : List ℕ) → Spaced ats → Passed ats a k → a < 2 ^ 64 → b < 2 ^ 64 → b < getD ats k (2 ^ 64) → noneWithin a b (changesOf ats os) ≡ true
+pub none-true : (a b k : ℕ) (ats os : List ℕ) → Spaced ats → Passed ats a k → a < 2 ^ 64 → b < 2 ^ 64 → b < getD ats k (2 ^ 64)
+    → noneWithin a b (changesOf ats os) ≡ true
 unfolding noneWithin
 none-true a b k [] os s p h f l = refl
 none-true a b k (x ∷ ats) [] s p h f l = refl
@@ -58,7 +51,8 @@ none-true a b (suc k) (x ∷ ats) (q ∷ os) s p h f l =
     past a b x (noneWithin a b (changesOf ats os)) (omega (arith, first-least x ats k s (p .most), p .last))
     ∙ none-true a b k ats os (s .1) (passed-rest a k x ats p) h f l
 
-pub none-false : (a b k : ℕ) (ats os : List ℕ) → Spaced ats → length ats ≡ length os → Passed ats a k → k < length ats → getD ats k 0 ≤ b → noneWithin a b (changesOf ats os) ≡ false
+pub none-false : (a b k : ℕ) (ats os : List ℕ) → Spaced ats → length ats ≡ length os → Passed ats a k → k < length ats → getD ats k 0 ≤ b
+    → noneWithin a b (changesOf ats os) ≡ false
 unfolding noneWithin
 none-false a b k [] os s e p h l = absurd (not-suc-le-zero h)
 none-false a b k (x ∷ ats) [] s e p h l = absurd (omega arith)
@@ -68,7 +62,8 @@ none-false a b (suc k) (x ∷ ats) (q ∷ os) s e p h l =
     ∙ none-false a b k ats os (s .1) (suc-inj e) (passed-rest a k x ats p) (le-of-suc-le-suc h) l
 
 -- where the next one stands, as the code reads it
-pub next-near : (ats : List ℕ) (k b : ℕ) → getD ats k 18446744073709551615 ≤ b → b < 18446744073709551615 → (k < length ats) × (getD ats k 0 ≤ b)
+pub next-near : (ats : List ℕ) (k b : ℕ) → getD ats k 18446744073709551615 ≤ b → b < 18446744073709551615
+    → (k < length ats) × (getD ats k 0 ≤ b)
 next-near [] k b h i = absurd (omega arith)
 next-near (x ∷ ats) zero b h i = (omega arith, h)
 next-near (x ∷ ats) (suc k) b h i = let on = next-near ats k b h i in (omega (arith, on .0), on .1)
@@ -82,11 +77,13 @@ pub steady-late : (z : Zone) (from to : ℕ) → firstSteady ≤ from → lastSt
 unfolding steadyOf
 steady-late z from to g h = simp (le-leb firstSteady from g, lt-leb to lastSteady h)
 
-pub steady-not : (z : Zone) (from to : ℕ) → firstSteady ≤ from → to ≤ lastSteady → noneWithin (from - marginNs) (to + marginNs) (z .changes) ≡ false → steadyOf z from to ≡ No
+pub steady-not : (z : Zone) (from to : ℕ) → firstSteady ≤ from → to ≤ lastSteady
+    → noneWithin (from - marginNs) (to + marginNs) (z .changes) ≡ false → steadyOf z from to ≡ No
 unfolding steadyOf
 steady-not z from to g h e = simp (le-leb firstSteady from g, le-leb to lastSteady h, e)
 
-pub steady-by : (z : Zone) (from to o : ℕ) → firstSteady ≤ from → to ≤ lastSteady → noneWithin (from - marginNs) (to + marginNs) (z .changes) ≡ true
+pub steady-by : (z : Zone) (from to o : ℕ) → firstSteady ≤ from → to ≤ lastSteady
+    → noneWithin (from - marginNs) (to + marginNs) (z .changes) ≡ true
     → offsetAt z (from - marginNs) ≡ o → steadyOf z from to ≡ By o
 unfolding steadyOf
 steady-by z from to o g h e i = simp (le-leb firstSteady from g, le-leb to lastSteady h, e, i)
@@ -126,7 +123,8 @@ not-by o e = subst IsNo e tt
 
 pub steady-calm : (z : Zone) (from to o : ℕ) → from ≤ to → steadyOf z from to ≡ By o → Calm z from to o
 unfolding steadyOf
-steady-calm z from to o h e = go (leb firstSteady from) (leb to lastSteady) (noneWithin (from - marginNs) (to + marginNs) (z .changes)) refl refl refl e
+steady-calm z from to o h e =
+    go (leb firstSteady from) (leb to lastSteady) (noneWithin (from - marginNs) (to + marginNs) (z .changes)) refl refl refl e
   where
     go : (p q n : Bool) → leb firstSteady from ≡ p → leb to lastSteady ≡ q → noneWithin (from - marginNs) (to + marginNs) (z .changes) ≡ n
         → cond (p && q) (cond n (By (offsetAt z (from - marginNs))) No) No ≡ By o → Calm z from to o
@@ -141,9 +139,6 @@ steady-calm z from to o h e = go (leb firstSteady from) (leb to lastSteady) (non
     go true true false i j k m = absurd (not-by o m)
     go true false n i j k m = absurd (not-by o m)
     go false q n i j k m = absurd (not-by o m)
-
-at-by : (t t′ : ℕ) (u : Uncertainty) → t ≡ t′ → _≡_ {A = Boundary} (record { at = record { 0 = t }; uncertainty = u }) (record { at = record { 0 = t′ }; uncertainty = u })
-at-by t t′ u e = cc
 
 -- dates of such instants
 day-low : (o t d : ℕ) → o ≤ 2 * mostOffset → firstSteady ≤ t → dayBy o t ≤ d → 3 ≤ d
@@ -172,13 +167,16 @@ in-date d x e h i = omega arith
 pub next-midnight : (d e : ℕ) → d ≤ e → suc d * dayNs + 0 ≤ suc e * dayNs
 next-midnight d e h = omega arith
 
-near-low : (o from d x t : ℕ) → o ≤ 2 * mostOffset → firstSteady ≤ from → dayBy o from ≤ d → d * dayNs + x - mostNs ≤ t → from ≤ t + marginNs
+near-low : (o from d x t : ℕ) → o ≤ 2 * mostOffset → firstSteady ≤ from → dayBy o from ≤ d → d * dayNs + x - mostNs ≤ t
+    → from ≤ t + marginNs
 near-low o from d x t h i j k = omega arith
 
-near-high : (o to d x t : ℕ) → o ≤ 2 * mostOffset → d * dayNs + x ≤ suc (dayBy o to) * dayNs → firstSteady ≤ to → t ≤ d * dayNs + x + mostNs → t ≤ to + marginNs
+near-high : (o to d x t : ℕ) → o ≤ 2 * mostOffset → d * dayNs + x ≤ suc (dayBy o to) * dayNs → firstSteady ≤ to → t ≤ d * dayNs + x + mostNs
+    → t ≤ to + marginNs
 near-high o to d x t h i l k = omega arith
 
-module _ (first : ℕ) (ats os : List ℕ) (ok : Valid first ats os) (from to o : ℕ) (h : from ≤ to) (e : steadyOf (zoneOf first ats os) from to ≡ By o) where
+module _ (first : ℕ) (ats os : List ℕ) (ok : Valid first ats os) (from to o : ℕ) (h : from ≤ to)
+    (e : steadyOf (zoneOf first ats os) from to ≡ By o) where
   abbrev z : Zone
   z = zoneOf first ats os
 
@@ -219,4 +217,4 @@ module _ (first : ℕ) (ats os : List ℕ) (ok : Valid first ats os) (from to o 
       (λ t p q. calm .same t (near-low o from d x t most (calm .early) i p) (near-high o to d x t most j (omega (arith, calm .early, h)) q)) in
       ap (λ (r : ℕ). boundary (resolve z r) u) (reading-plain d x (in-use .1) (in-use .2) c)
       ∙ ap (λ (r : Resolution). boundary r u) shifted
-      ∙ at-by (w + mostNs - offsetNs o) (midnightBy o d + x) u (behind-midnight o d x most (in-use .1))
+      ∙ boundary-of (w + mostNs - offsetNs o) (midnightBy o d + x) u u (behind-midnight o d x most (in-use .1)) refl

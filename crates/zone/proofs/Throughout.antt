@@ -123,7 +123,8 @@ module _ (z : Zone) (d : ℕ) where
               unparted = (k, n .unparted);
             }
 
-        parts : (n : Near t cs) → n .from < c .at → c .at ≤ n .to → (dateAt z (c .at - 1) ≡ d) × (dateAt z (c .at) ≡ d) → Dec (c .at ≤ t) → Near t (c ∷ cs)
+        parts : (n : Near t cs) → n .from < c .at → c .at ≤ n .to → (dateAt z (c .at - 1) ≡ d) × (dateAt z (c .at) ≡ d) → Dec (c .at ≤ t)
+            → Near t (c ∷ cs)
         parts n f g r (yes k) =
             record {
               from = c .at;
@@ -166,8 +167,9 @@ module _ (z : Zone) (d : ℕ) where
           go (no l) m = simp (le-ltb a at (omega arith))
           go (yes l) (no m) = simp (le-ltb at b (omega arith), and-no (ltb a at))
           go (yes l) (yes m) =
-              simp
-              (lt-ltb a at l, lt-ltb at b m, eq-eqb (dateAt z (at - 1)) d (all (at - 1) (omega arith) (omega arith)), eq-eqb (dateAt z at) d (all at (omega arith) m))
+              let was = eq-eqb (dateAt z (at - 1)) d (all (at - 1) (omega arith) (omega arith)) in
+              let is = eq-eqb (dateAt z at) d (all at (omega arith) m) in
+              simp (lt-ltb a at l, lt-ltb at b m, was, is)
 
       changes-yes : (cs : List Change) → readsChanges z d a b cs ≡ true
       unfolding readsChanges
@@ -178,7 +180,8 @@ module _ (z : Zone) (d : ℕ) where
     pub reads-all : readsThroughout z d a b ≡ true → (t : ℕ) → a ≤ t → t < b → dateAt z t ≡ d
     unfolding readsThroughout
     reads-all e t h i =
-        let f : ((readsOn z d a && readsOn z d (b - 1)) && readsChanges z d a b (z .changes)) ≡ true = sym (simp (lt-ltb a b (between t a b h i))) ∙ e in
+        let f : ((readsOn z d a && readsOn z d (b - 1)) && readsChanges z d a b (z .changes)) ≡ true =
+        sym (simp (lt-ltb a b (between t a b h i))) ∙ e in
         let g = and-true (readsOn z d a && readsOn z d (b - 1)) (readsChanges z d a b (z .changes)) f in
         let k = and-true (readsOn z d a) (readsOn z d (b - 1)) (g .0) in
         let n = near (z .changes) (g .1) t h i (eqb-true (dateAt z a) d (k .0)) (eqb-true (dateAt z (b - 1)) d (k .1)) in
@@ -191,6 +194,6 @@ module _ (z : Zone) (d : ℕ) where
         go : Dec (a < b) → readsThroughout z d a b ≡ true
         go (no l) = simp (le-ltb a b (omega arith))
         go (yes l) =
-            simp
-            (lt-ltb a b l, eq-eqb (dateAt z a) d (all a (omega arith) l), eq-eqb (dateAt z (b - 1)) d (all (b - 1) (omega arith) (omega arith)))
-            (changes-yes all (z .changes))
+            let first = eq-eqb (dateAt z a) d (all a (omega arith) l) in
+            let last = eq-eqb (dateAt z (b - 1)) d (all (b - 1) (omega arith) (omega arith)) in
+            simp (lt-ltb a b l, first, last) (changes-yes all (z .changes))

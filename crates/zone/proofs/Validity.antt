@@ -25,20 +25,29 @@ good least a o = (leb least a && leb a lastAt) && leb o (2 * mostOffset)
 -- ---- the test along the slices
 
 module _ (least : ℕ) (ats os : List ℕ) (i : ℕ) (h : i < length ats) (l : i < length os) where
-  step : validFrom least (drop i ats) (drop i os) ≡ (good least (getD ats i 0) (getD os i 0) && validFrom (getD ats i 0 + spacingNs) (drop (i + 1) ats) (drop (i + 1) os))
+  abbrev at : ℕ
+  at = getD ats i 0
+
+  abbrev here : Bool
+  here = good least at (getD os i 0)
+
+  abbrev rest : Bool
+  rest = validFrom (at + spacingNs) (drop (i + 1) ats) (drop (i + 1) os)
+
+  step : validFrom least (drop i ats) (drop i os) ≡ (here && rest)
   step = rw (add-one i) (ap₂ (validFrom least) (drop-cons ats i 0 h) (drop-cons os i 0 l))
 
-  pub valid-stops : good least (getD ats i 0) (getD os i 0) ≡ false → validFrom least (drop i ats) (drop i os) ≡ false
-  valid-stops e = step ∙ ap (λ (b : Bool). b && validFrom (getD ats i 0 + spacingNs) (drop (i + 1) ats) (drop (i + 1) os)) e
+  pub valid-stops : here ≡ false → validFrom least (drop i ats) (drop i os) ≡ false
+  valid-stops e = step ∙ ap (λ (b : Bool). b && rest) e
 
-  pub valid-goes : good least (getD ats i 0) (getD os i 0) ≡ true
-      → (getD ats i 0 ≤ lastAt) × (validFrom (getD ats i 0 + spacingNs) (drop (i + 1) ats) (drop (i + 1) os) ≡ validFrom least (drop i ats) (drop i os))
+  pub valid-goes : here ≡ true → (at ≤ lastAt) × (rest ≡ validFrom least (drop i ats) (drop i os))
   valid-goes e =
-      let both = and-true (leb least (getD ats i 0) && leb (getD ats i 0) lastAt) (leb (getD os i 0) (2 * mostOffset)) e in
-      let two = and-true (leb least (getD ats i 0)) (leb (getD ats i 0) lastAt) (both .0) in
-      (leb-true (getD ats i 0) lastAt (two .1), sym (step ∙ ap (λ (b : Bool). b && validFrom (getD ats i 0 + spacingNs) (drop (i + 1) ats) (drop (i + 1) os)) e))
+      let both = and-true (leb least at && leb at lastAt) (leb (getD os i 0) (2 * mostOffset)) e in
+      let two = and-true (leb least at) (leb at lastAt) (both .0) in
+      (leb-true at lastAt (two .1), sym (step ∙ ap (λ (b : Bool). b && rest) e))
 
-pub valid-end : (least : ℕ) (ats os : List ℕ) (i : ℕ) → i ≡ length ats → length ats ≡ length os → validFrom least (drop i ats) (drop i os) ≡ true
+pub valid-end : (least : ℕ) (ats os : List ℕ) (i : ℕ) → i ≡ length ats → length ats ≡ length os
+    → validFrom least (drop i ats) (drop i os) ≡ true
 valid-end least ats os i e f =
     ap₂ (validFrom least) (ap (λ (k : ℕ). drop k ats) e ∙ drop-length ats) (ap (λ (k : ℕ). drop k os) (e ∙ f) ∙ drop-length os)
 
@@ -128,4 +137,10 @@ pub yes-valid : (first : ℕ) (ats os : List ℕ) → Valid first ats os → val
 yes-valid first ats os v =
     simp (le-leb first (2 * mostOffset) (v .first-in))
     (holds (firstDay * dayNs) (firstDay * dayNs) ats os
-    (record { alike = v .alike; offsets-in = v .offsets-in; ats-in = v .ats-in; spaced = v .spaced; begins = opens (firstDay * dayNs) lastAt ats (v .ats-in) }))
+    (record {
+      alike = v .alike;
+      offsets-in = v .offsets-in;
+      ats-in = v .ats-in;
+      spaced = v .spaced;
+      begins = opens (firstDay * dayNs) lastAt ats (v .ats-in);
+    }))

@@ -1,4 +1,3 @@
-use Prim.Native.Nat.{_-_}
 use borrow.Author.Needs.{needs}
 use Rattle.tell.proofs.phase_of.Statement.{statement}
 use Rattle.tell.proofs.phase_of.Tie as tie
@@ -25,15 +24,14 @@ rule-derived-requires c κs =
 
 returns : tie.Need-returns
 returns c =
-    let at-rule-derived = c in
-    let at-rule-evidence = at-rule-derived .before in
+    let at-rule-evidence = c .before in
     let at-rule-label = at-rule-evidence .before in
     let at-rule-code = at-rule-label .before in
     rw (
-      (at-rule-code .rule-code .ensures .0),
-      (at-rule-label .rule-label .ensures),
-      (at-rule-evidence .rule-evidence .ensures),
-      (at-rule-derived .rule-derived .ensures),
+      at-rule-code .rule-code .ensures .0,
+      at-rule-label .rule-label .ensures,
+      at-rule-evidence .rule-evidence .ensures,
+      c .rule-derived .ensures,
     )
 
 pub phase-of-spec : {M : Type 1} → statement M

@@ -1,5 +1,7 @@
 use Rattle.tell.proofs.Kept.{Turning, turn-start, turn-next, turn-room, turn-one, turn-end}
-use Prim.Native.Nat.{_-_}
+use Rattle.venue.specs.Reading.{Listed}
+use lib.ListN.{getD}
+use Prim.Native.Nat.{_-_, _<_}
 use native.Mathlib.Omega.{arith}
 use borrow.Author.Needs.{needs}
 use Rattle.tell.proofs.put_kept.Statement.{statement}
@@ -11,138 +13,81 @@ Inv-loop book when which n out₀ at place₀ next₀ i₀ out place next i = Tu
 abbrev μ-loop : tie.MeasureT-loop
 μ-loop book when which n out₀ at place₀ next₀ i₀ out place next i = n - i
 
-loop-holds : tie.Need-loop-holds Inv-loop μ-loop
-loop-holds c =
-    let at-start = c .before .before .before .before .before in
-    let args = at-start .args in
-    turn-start (args .book .now) (args .when .now) (args .which .now) (args .n) (args .out .now) (args .at) (at-start .pre .3) (c .next-kept .ensures)
+-- a need, or a place, at this invariant and measure
+abbrev At : (tie.InvT-loop → tie.MeasureT-loop → Type 0) → Type 0
+At it = it Inv-loop μ-loop
 
-mul-t15 : tie.Need-mul-t15 Inv-loop μ-loop
-mul-t15 c =
-    let at-loop = c .before in
-    let at-start = at-loop .before .before .before .before .before .before in
-    let args = at-start .args in
-    let l = turn-next (args .book .now) (args .when .now) (args .which .now) (args .n) (args .out .now) (args .at) (at-loop .loop .inv)
-    (c .loop-test .taken) in
-    omega (arith, l, at-start .pre .0)
+-- the entry, from a turn of the loop
+abbrev entry : At tie.In-loop → At tie.Start
+entry c = c .before .before .before .before .before .before .before
 
-shared-slice-read-t17 : tie.Need-shared-slice-read-t17 Inv-loop μ-loop
-shared-slice-read-t17 c =
-    let at-loop = c .before .before in
-    let at-start = at-loop .before .before .before .before .before .before in
-    let args = at-start .args in
-    let l = turn-next (args .book .now) (args .when .now) (args .which .now) (args .n) (args .out .now) (args .at) (at-loop .loop .inv)
-    (c .before .loop-test .taken) in
-    omega (arith, l, at-start .pre .0)
+-- the turn, from where the event's uncertainty is read and from where the event is written
+abbrev turn : At tie.After-shared-slice-known5 → At tie.In-loop
+turn c = c .before .before
 
-mul-event : tie.Need-mul-event Inv-loop μ-loop
-mul-event c =
-    let at-loop = c .before .before in
-    let at-start = at-loop .before .before .before .before .before .before in
-    let args = at-start .args in
-    let l = turn-next (args .book .now) (args .when .now) (args .which .now) (args .n) (args .out .now) (args .at) (at-loop .loop .inv)
-    (c .before .loop-test .taken) in
-    omega (arith, l, at-start .pre .1)
+abbrev written : At tie.After-put-event → At tie.In-loop
+written c = turn (c .before .before .before .before .before)
 
-shared-slice-read-event : tie.Need-shared-slice-read-event Inv-loop μ-loop
-shared-slice-read-event c =
-    let at-loop = c .before .before .before in
-    let at-start = at-loop .before .before .before .before .before .before in
-    let args = at-start .args in
-    let l = turn-next (args .book .now) (args .when .now) (args .which .now) (args .n) (args .out .now) (args .at) (at-loop .loop .inv)
-    (c .before .before .loop-test .taken) in
-    omega (arith, l, at-start .pre .1)
+-- the next to write is one of those kept
+kept : (c : At tie.In-loop) → c .before .loop .next < entry c .args .n
+kept c = turn-next _ _ _ _ _ _ (c .before .loop .inv) (c .loop-test .taken)
 
-cast-event : tie.Need-cast-event Inv-loop μ-loop
-cast-event c =
-    let at-loop = c .before .before .before in
-    let at-start = at-loop .before .before .before .before .before .before in
-    let args = at-start .args in
-    let l = turn-next (args .book .now) (args .when .now) (args .which .now) (args .n) (args .out .now) (args .at) (at-loop .loop .inv)
-    (c .before .before .loop-test .taken) in
-    let e = at-start .pre .2 (at-loop .loop .next) l in
-    omega (arith, e .small, e .frame)
+-- and an event of the book
+its-event : (c : At tie.In-loop) → Listed 4 (entry c .args .book .now) (getD (entry c .args .which .now) (c .before .loop .next) 0)
+its-event c = entry c .pre .2 _ (kept c)
 
-event-uncertainty-requires : tie.Need-event-uncertainty-requires Inv-loop μ-loop
-event-uncertainty-requires c κs =
-    let at-loop = c .before .before .before in
-    let at-start = at-loop .before .before .before .before .before .before in
-    let args = at-start .args in
-    let l = turn-next (args .book .now) (args .when .now) (args .which .now) (args .n) (args .out .now) (args .at) (at-loop .loop .inv)
-    (c .before .before .loop-test .taken) in
-    at-start .pre .2 (at-loop .loop .next) l
+loop-holds : At tie.Need-loop-holds
+loop-holds c = turn-start _ _ _ _ _ _ (c .before .before .before .before .before .pre .3) (c .next-kept .ensures)
 
-event-code-requires : tie.Need-event-code-requires Inv-loop μ-loop
-event-code-requires c κs =
-    let at-loop = c .before .before .before .before .before in
-    let at-start = at-loop .before .before .before .before .before .before in
-    let args = at-start .args in
-    let l = turn-next (args .book .now) (args .when .now) (args .which .now) (args .n) (args .out .now) (args .at) (at-loop .loop .inv)
-    (c .before .before .before .before .loop-test .taken) in
-    at-start .pre .2 (at-loop .loop .next) l
+mul-t15 : At tie.Need-mul-t15
+mul-t15 c = omega (arith, kept c, entry c .pre .0)
 
-event-evidence-requires : tie.Need-event-evidence-requires Inv-loop μ-loop
-event-evidence-requires c κs =
-    let at-loop = c .before .before .before .before .before .before in
-    let at-start = at-loop .before .before .before .before .before .before in
-    let args = at-start .args in
-    let l = turn-next (args .book .now) (args .when .now) (args .which .now) (args .n) (args .out .now) (args .at) (at-loop .loop .inv)
-    (c .before .before .before .before .before .loop-test .taken) in
-    at-start .pre .2 (at-loop .loop .next) l
+shared-slice-read-t17 : At tie.Need-shared-slice-read-t17
+shared-slice-read-t17 c = omega (arith, kept (c .before), entry (c .before) .pre .0)
 
-put-event-requires : tie.Need-put-event-requires Inv-loop μ-loop
-put-event-requires c κs =
-    let at-loop = c .before .before .before .before .before .before .before in
-    let at-start = at-loop .before .before .before .before .before .before in
-    let args = at-start .args in
-    turn-room (args .book .now) (args .when .now) (args .which .now) (args .n) (args .out .now) (args .at) (at-loop .loop .inv)
-    (c .before .before .before .before .before .before .loop-test .taken)
+mul-event : At tie.Need-mul-event
+mul-event c = omega (arith, kept (c .before), entry (c .before) .pre .1)
 
-add-next-kept : tie.Need-add-next-kept Inv-loop μ-loop
-add-next-kept c =
-    let at-loop = c .before .before .before .before .before .before .before .before .before .before in
-    let at-start = at-loop .before .before .before .before .before .before in
-    let args = at-start .args in
-    let l = turn-next (args .book .now) (args .when .now) (args .which .now) (args .n) (args .out .now) (args .at) (at-loop .loop .inv)
-    (c .before .before .before .before .before .before .before .before .before .loop-test .taken) in
-    omega (arith, l)
+shared-slice-read-event : At tie.Need-shared-slice-read-event
+shared-slice-read-event c = omega (arith, kept (turn c), entry (turn c) .pre .1)
 
-next-kept-requires-2 : tie.Need-next-kept-requires-2 Inv-loop μ-loop
-next-kept-requires-2 c κs =
-    let at-loop = c .before .before .before .before .before .before .before .before .before .before in
-    let at-start = at-loop .before .before .before .before .before .before in
-    at-start .pre .0
+cast-event : At tie.Need-cast-event
+cast-event c = let e = its-event (turn c) in omega (arith, e .small, e .frame)
 
-add-i : tie.Need-add-i Inv-loop μ-loop
-add-i c =
-    let t = c .before .before .before .before .before .before .before .before .before .before .loop-test .taken in
-    omega (arith, t)
+event-uncertainty-requires : At tie.Need-event-uncertainty-requires
+event-uncertainty-requires c κs = its-event (turn c)
 
-loop-less : tie.Need-loop-less Inv-loop μ-loop
-loop-less c =
-    let t = c .before .before .before .before .before .before .before .before .before .before .loop-test .taken in
-    omega (arith, t)
+event-code-requires : At tie.Need-event-code-requires
+event-code-requires c κs = its-event (turn (c .before .before))
 
-loop-again : tie.Need-loop-again Inv-loop μ-loop
+event-evidence-requires : At tie.Need-event-evidence-requires
+event-evidence-requires c κs = its-event (turn (c .before .before .before))
+
+put-event-requires : At tie.Need-put-event-requires
+put-event-requires c κs = let l = turn (c .before .before .before .before) in turn-room _ _ _ _ _ _ (l .before .loop .inv) (l .loop-test .taken)
+
+add-next-kept : At tie.Need-add-next-kept
+add-next-kept c = omega (arith, kept (written (c .before .before)))
+
+next-kept-requires-2 : At tie.Need-next-kept-requires-2
+next-kept-requires-2 c κs = entry (written (c .before .before)) .pre .0
+
+add-i : At tie.Need-add-i
+add-i c = omega (arith, written (c .before .before .before) .loop-test .taken)
+
+loop-less : At tie.Need-loop-less
+loop-less c = omega (arith, written (c .before .before .before) .loop-test .taken)
+
+loop-again : At tie.Need-loop-again
 loop-again c =
     let at-put-event = c .before .before .before in
-    let at-event-evidence = at-put-event .before in
-    let at-event-code = at-event-evidence .before in
-    let at-event-uncertainty = at-event-code .before .before in
-    let at-loop-test = at-event-uncertainty .before .before .before in
-    let at-loop = at-loop-test .before in
-    let at-start = at-loop .before .before .before .before .before .before in
-    let args = at-start .args in
-    turn-one (args .book .now) (args .when .now) (args .which .now) (args .n) (args .out .now) (args .at) (at-loop .loop .inv)
-    (at-loop-test .loop-test .taken) (at-event-uncertainty .event-uncertainty .ensures) (at-event-code .event-code .ensures)
-    (at-event-evidence .event-evidence .ensures) (at-put-event .put-event .ensures) (c .next-kept2 .ensures)
+    let at-event-code = at-put-event .before .before in
+    let l = written at-put-event in
+    turn-one _ _ _ _ _ _ (l .before .loop .inv) (l .loop-test .taken) (at-event-code .before .before .event-uncertainty .ensures) (at-event-code .event-code .ensures)
+    (at-put-event .before .event-evidence .ensures) (at-put-event .put-event .ensures) (c .next-kept2 .ensures)
 
-returns : tie.Need-returns Inv-loop μ-loop
-returns c =
-    let at-loop = c .before in
-    let at-start = at-loop .before .before .before .before .before .before in
-    let args = at-start .args in
-    turn-end (args .book .now) (args .when .now) (args .which .now) (args .n) (args .out .now) (args .at) (at-loop .loop .inv) (c .loop-test .left)
+returns : At tie.Need-returns
+returns c = turn-end _ _ _ _ _ _ (c .before .loop .inv) (c .loop-test .left)
 
 pub put-kept-spec : {M : Type 1} → statement M
 put-kept-spec =

@@ -6,7 +6,7 @@ use Rattle.records.specs.Records.{eventAt}
 use Rattle.zone.specs.Zone.{zoneOf}
 use lib.ListN.{length}
 use mathlib.Core.List.{map}
-use Prim.Native.Nat.{_-_}
+use Prim.Native.Nat.{_-_, _<_}
 use mathlib.Core.Path.{_≡_, ap}
 use borrow.Author.Needs.{needs}
 use native.Mathlib.Omega.{arith}
@@ -21,110 +21,69 @@ Inv-loop book first ats offsets events from to out₀ at count best₀ place₀ 
 abbrev μ-loop : tie.MeasureT-loop
 μ-loop book first ats offsets events from to out₀ at count best₀ place₀ i₀ out best place i = count - i
 
-search-events-requires : tie.Need-search-events-requires Inv-loop μ-loop
-search-events-requires c κs =
-    let at-start = c .before .before .before .before .before in
-    ((at-start .pre) .0, (at-start .pre) .1, (at-start .pre) .2)
+-- a need, or a place, at this invariant and measure
+abbrev At : (tie.InvT-loop → tie.MeasureT-loop → Type 0) → Type 0
+At it = it Inv-loop μ-loop
 
-loop-holds : tie.Need-loop-holds Inv-loop μ-loop
+-- the turn, from where the next event is at hand and from where it is written
+abbrev turn : At tie.After-best → At tie.In-loop
+turn c = c .before .before
+
+abbrev written : At tie.After-put-event → At tie.After-best
+written c = c .before .before .before .before .before
+
+-- one is left to write
+more : (c : At tie.In-loop)
+    → let args = c .before .before .before .before .before .before .before .before .args in
+    c .before .loop .i < length (found (zoneOf (args .first) (args .ats .now) (args .offsets .now)) (map (eventAt (args .book .now)) (args .events .now)) (args .from .0) (args .to .0))
+more c = omega (arith, c .loop-test .taken, c .before .loop .inv .0)
+
+search-events-requires : At tie.Need-search-events-requires
+search-events-requires c κs = let pre = c .before .before .before .before .before .pre in (pre .0, pre .1, pre .2)
+
+loop-holds : At tie.Need-loop-holds
 loop-holds c =
-    let at-search-events = c in
-    let at-start = at-search-events .before .before .before .before .before .before in
-    let args = at-start .args in
-    let es = found (zoneOf (args .first) (args .ats .now) (args .offsets .now)) (map (eventAt (args .book .now)) (args .events .now)) (args .from .0)
-    (args .to .0) in (
-      begun-count 0 0 es (at-search-events .search-events .ensures .0),
-      trail-start es (args .out .now) (args .at) (at-start .pre .3)
-          (ap (λ (s : Search). s .best) (at-search-events .search-events .ensures .0)),
-    )
+    let begun = c .search-events .ensures .0 in
+    (begun-count 0 0 _ begun, trail-start _ _ _ (c .before .before .before .before .before .before .pre .3) (ap (λ (s : Search). s .best) begun))
 
-same-length : tie.Need-same-length Inv-loop μ-loop
-same-length c =
-    let at-loop = c .before .before .before in
-    ((at-loop .loop .inv) .1) .kept
+returns : At tie.Need-returns
+returns c = trail-none _ _ _ (c .before .before .before .loop .inv .1) (c .enum-told .given .1)
 
-returns : tie.Need-returns Inv-loop μ-loop
-returns c =
-    let at-enum-told = c in
-    let at-loop = at-enum-told .before .before .before in
-    let at-start = at-loop .before .before .before .before .before .before .before in
-    let args = at-start .args in
-    trail-none (found (zoneOf (args .first) (args .ats .now) (args .offsets .now)) (map (eventAt (args .book .now)) (args .events .now))
-    (args .from .0) (args .to .0)) (args .out .now) (args .at) (at-loop .loop .inv .1) (at-enum-told .enum-told .given .1)
-
-put-event-requires : tie.Need-put-event-requires Inv-loop μ-loop
+put-event-requires : At tie.Need-put-event-requires
 put-event-requires c κs =
     let at-best = c .before .before .before .before in
-    let at-loop-test = at-best .before .before in
-    let at-loop = at-loop-test .before in
-    let at-start = at-loop .before .before .before .before .before .before .before in
-    let args = at-start .args in
-    trail-room (found (zoneOf (args .first) (args .ats .now) (args .offsets .now)) (map (eventAt (args .book .now)) (args .events .now))
-    (args .from .0) (args .to .0)) (args .out .now) (args .at) (at-loop .loop .inv .1)
-    (omega (arith, (at-loop-test .loop-test .taken), (at-loop .loop .inv .0))) _ _ (at-best .best .given .1)
+    trail-room _ _ _ (turn at-best .before .loop .inv .1) (more (turn at-best)) _ _ (at-best .best .given .1)
 
-add-search-events : tie.Need-add-search-events Inv-loop μ-loop
+add-search-events : At tie.Need-add-search-events
 add-search-events c =
-    let at-best = c .before .before .before .before .before .before .before in
-    let at-loop-test = at-best .before .before in
-    let at-loop = at-loop-test .before in
-    let at-search-events = at-loop .before in
-    let at-start = at-search-events .before .before .before .before .before .before in
-    let args = at-start .args in
-    omega (
-      arith,
-      trail-index (found (zoneOf (args .first) (args .ats .now) (args .offsets .now))
-          (map (eventAt (args .book .now)) (args .events .now)) (args .from .0) (args .to .0)) (args .out .now) (args .at) (at-loop .loop .inv .1)
-          (omega (arith, (at-loop-test .loop-test .taken), (at-loop .loop .inv .0))) _ _ (at-best .best .given .1),
-      (at-loop .loop .inv .0),
-      (at-search-events .search-events .ensures .1),
-    )
+    let at-best = written (c .before .before) in
+    let at-loop = turn at-best .before in
+    let below = trail-index _ _ _ (at-loop .loop .inv .1) (more (turn at-best)) _ _ (at-best .best .given .1) in
+    omega (arith, below, at-loop .loop .inv .0, at-loop .before .search-events .ensures .1)
 
-search-events-requires-2 : tie.Need-search-events-requires-2 Inv-loop μ-loop
+search-events-requires-2 : At tie.Need-search-events-requires-2
 search-events-requires-2 c κs =
-    let at-start = c .before .before .before .before .before .before .before .before .before .before .before .before .before .before .before .before .before in
-    ((at-start .pre) .0, (at-start .pre) .1, (at-start .pre) .2)
+    let pre = turn (written (c .before .before)) .before .before .before .before .before .before .before .before .pre in
+    (pre .0, pre .1, pre .2)
 
-add-i : tie.Need-add-i Inv-loop μ-loop
-add-i c =
-    let at-loop-test = c .before .before .before .before .before .before .before .before .before .before in
-    omega (arith, (at-loop-test .loop-test .taken))
+add-i : At tie.Need-add-i
+add-i c = omega (arith, turn (written (c .before .before .before)) .loop-test .taken)
 
-loop-less : tie.Need-loop-less Inv-loop μ-loop
-loop-less c =
-    let at-loop-test = c .before .before .before .before .before .before .before .before .before .before in
-    omega (arith, (at-loop-test .loop-test .taken))
+loop-less : At tie.Need-loop-less
+loop-less c = omega (arith, turn (written (c .before .before .before)) .loop-test .taken)
 
-loop-again : tie.Need-loop-again Inv-loop μ-loop
+loop-again : At tie.Need-loop-again
 loop-again c =
-    let at-search-events2 = c in
-    let at-put-event = at-search-events2 .before .before .before in
-    let at-best = at-put-event .before .before .before .before .before in
-    let at-loop-test = at-best .before .before in
-    let at-loop = at-loop-test .before in
-    let at-start = at-loop .before .before .before .before .before .before .before in
-    let args = at-start .args in (
-      (at-loop .loop .inv .0),
-      trail-one (found (zoneOf (args .first) (args .ats .now) (args .offsets .now))
-          (map (eventAt (args .book .now)) (args .events .now)) (args .from .0) (args .to .0)) (args .out .now) (args .at) (at-loop .loop .inv .1)
-          (omega (arith, (at-loop-test .loop-test .taken), (at-loop .loop .inv .0))) _ _ (at-best .best .given .1) (at-put-event .put-event .ensures)
-          (ap (λ (s : Search). s .best) (at-search-events2 .search-events2 .ensures .0)),
+    let at-put-event = c .before .before .before in
+    let at-best = written at-put-event in
+    let inv = turn at-best .before .loop .inv in (
+      inv .0,
+      trail-one _ _ _ (inv .1) (more (turn at-best)) _ _ (at-best .best .given .1) (at-put-event .put-event .ensures)
+          (ap (λ (s : Search). s .best) (c .search-events2 .ensures .0)),
     )
 
-same-length-2 : tie.Need-same-length-2 Inv-loop μ-loop
-same-length-2 c =
-    let at-loop = c .before in
-    ((at-loop .loop .inv) .1) .kept
-
-returns-2 : tie.Need-returns-2 Inv-loop μ-loop
-returns-2 c =
-    let at-loop-test = c in
-    let at-loop = at-loop-test .before in
-    let at-start = at-loop .before .before .before .before .before .before .before in
-    let args = at-start .args in
-    trail-end (found (zoneOf (args .first) (args .ats .now) (args .offsets .now)) (map (eventAt (args .book .now)) (args .events .now))
-    (args .from .0) (args .to .0)) (args .out .now) (args .at) (at-loop .loop .inv .1)
-    (omega (arith, (at-loop-test .loop-test .left), (at-loop .loop .inv .0)))
+returns-2 : At tie.Need-returns-2
+returns-2 c = let inv = c .before .loop .inv in trail-end _ _ _ (inv .1) (omega (arith, c .loop-test .left, inv .0))
 
 pub put-sought-spec : {M : Type 1} → statement M
 put-sought-spec =
@@ -135,7 +94,7 @@ put-sought-spec =
     search-events-requires
     loop-holds
     (λ c. search needs)
-    same-length
+    (λ c. c .before .before .before .loop .inv .1 .kept)
     returns
     (λ c. search needs)
     put-event-requires
@@ -144,5 +103,5 @@ put-sought-spec =
     add-i
     loop-less
     loop-again
-    same-length-2
+    (λ c. c .before .loop .inv .1 .kept)
     returns-2)

@@ -4,15 +4,13 @@ use Rattle.board.proofs.cells.cell_or.Tie as tie
 
 returns : tie.Need-returns
 returns c =
-    let at-if1 = c in
-    let at-start = at-if1 .before in
-    cell-marked _ _ (at-start .args .byte) (at-if1 .if1 .taken)
+    let at-start = c .before in
+    cell-marked _ _ (at-start .args .byte) (c .if1 .taken)
 
 returns-2 : tie.Need-returns-2
 returns-2 c =
-    let at-if1 = c in
-    let at-start = at-if1 .before in
-    cell-plain _ _ (at-start .args .byte) (at-if1 .if1 .left)
+    let at-start = c .before in
+    cell-plain _ _ (at-start .args .byte) (c .if1 .left)
 
 pub cell-or-spec : {M : Type 1} → statement M
 cell-or-spec = tie.close (tie.spec returns returns-2)

@@ -11,90 +11,59 @@ Inv-loop out₀ grid pace limit byte column₀ out column = ColumnOf grid column
 abbrev μ-loop : tie.MeasureT-loop
 μ-loop out₀ grid pace limit byte column₀ out column = grid .columns - column .c
 
-loop-holds : tie.Need-loop-holds Inv-loop μ-loop
-loop-holds c =
-    let at-start = c .before in
-    let args = at-start .args in (
-      (at-start .pre .2),
-      fill-start (args .grid) (at-start .pre .0) (args .first .c) (args .limit) (args .byte) (args .out .now) (at-start .pre .3)
-          (at-start .pre .2 .inside),
-    )
+-- a need, or a place, at this invariant and measure
+abbrev At : (tie.InvT-loop → tie.MeasureT-loop → Type 0) → Type 0
+At it = it Inv-loop μ-loop
 
-same-length : tie.Need-same-length Inv-loop μ-loop
-same-length c =
-    let at-loop = c .before .before .before .before .before in
-    (at-loop .loop .inv) .1 .kept
+-- the turn of the loop, and the entry
+abbrev turn : At tie.Then1 → At tie.At-loop
+turn c = c .before .before .before
 
-returns : tie.Need-returns Inv-loop μ-loop
+abbrev entry : At tie.At-loop → At tie.Start
+entry c = c .before .before
+
+loop-holds : At tie.Need-loop-holds
+loop-holds c = let pre = c .before .pre in (pre .2, fill-start _ (pre .0) _ _ _ _ (pre .3) (pre .2 .inside))
+
+returns : At tie.Need-returns
 returns c =
-    let at-if2 = c in
-    let at-loop = at-if2 .before .before .before .before .before in
-    let at-start = at-loop .before .before in
-    let args = at-start .args in (
-      (at-loop .loop .inv .0),
-      fill-limit (args .grid) (at-start .pre .0) (args .first .c) (args .limit) (args .byte) (args .out .now)
-          (at-start .pre .3) _ _ (at-loop .loop .inv .1) _ (at-loop .loop .inv .0 .at) (at-if2 .if2 .taken),
-    )
+    let l = turn (c .before .before) in
+    let pre = entry l .pre in
+    (l .loop .inv .0, fill-limit _ (pre .0) _ _ _ _ (pre .3) _ _ (l .loop .inv .1) _ (l .loop .inv .0 .at) (c .if2 .taken))
 
-cell-or-requires : tie.Need-cell-or-requires Inv-loop μ-loop
-cell-or-requires c κs = tt
+add-out : At tie.Need-add-out
+add-out c = let at-if1 = c .before .before .before in omega (arith, at-if1 .if1 .taken, entry (turn at-if1) .pre .0 .few)
 
-add-out : tie.Need-add-out Inv-loop μ-loop
-add-out c =
-    let at-if1 = c .before .before .before in
-    let at-start = at-if1 .before .before .before .before .before in
-    omega (arith, (at-if1 .if1 .taken), (at-start .pre) .0 .few)
-
-slice-write-out : tie.Need-slice-write-out Inv-loop μ-loop
+slice-write-out : At tie.Need-slice-write-out
 slice-write-out c =
     let at-if1 = c .before .before .before in
-    let at-loop = at-if1 .before .before .before in
-    let at-start = at-loop .before .before in
-    omega (arith, (at-if1 .if1 .taken), (at-start .pre) .3, (at-loop .loop .inv) .1 .kept)
+    omega (arith, at-if1 .if1 .taken, entry (turn at-if1) .pre .3, turn at-if1 .loop .inv .1 .kept)
 
-next-column-requires : tie.Need-next-column-requires Inv-loop μ-loop
+next-column-requires : At tie.Need-next-column-requires
 next-column-requires c κs =
     let at-if1 = c .before .before .before in
-    let at-loop = at-if1 .before .before .before in
-    let at-start = at-loop .before .before in
-    ((at-start .pre) .0, (at-start .pre) .1, (at-loop .loop .inv) .0, (at-if1 .if1 .taken))
+    let pre = entry (turn at-if1) .pre in
+    (pre .0, pre .1, turn at-if1 .loop .inv .0, at-if1 .if1 .taken)
 
-loop-less : tie.Need-loop-less Inv-loop μ-loop
-loop-less c =
-    let at-next-column = c in
-    let at-if1 = at-next-column .before .before .before .before in
-    omega (arith, (at-if1 .if1 .taken), (at-next-column .next-column .ensures) .1)
+loop-less : At tie.Need-loop-less
+loop-less c = omega (arith, c .before .before .before .before .if1 .taken, c .next-column .ensures .1)
 
-loop-again : tie.Need-loop-again Inv-loop μ-loop
+loop-again : At tie.Need-loop-again
 loop-again c =
-    let at-next-column = c in
-    let at-cell-or = at-next-column .before in
-    let at-if2 = at-cell-or .before in
+    let at-if2 = c .before .before in
     let at-if1 = at-if2 .before .before in
-    let at-loop = at-if1 .before .before .before in
-    let at-start = at-loop .before .before in
-    let args = at-start .args in (
-      (at-next-column .next-column .ensures .0),
-      fill-one (args .grid) (at-start .pre .0) (args .first .c) (args .limit) (args .byte) (args .out .now)
-          (at-start .pre .3) _ _ (at-loop .loop .inv .1) (at-if1 .if1 .taken) _ (at-loop .loop .inv .0 .at) (at-if2 .if2 .left) _
-          (at-cell-or .cell-or .ensures) _ (at-next-column .next-column .ensures .1),
+    let l = turn at-if1 in
+    let pre = entry l .pre in (
+      c .next-column .ensures .0,
+      fill-one _ (pre .0) _ _ _ _ (pre .3) _ _ (l .loop .inv .1) (at-if1 .if1 .taken) _ (l .loop .inv .0 .at) (at-if2 .if2 .left)
+          _ (c .before .cell-or .ensures) _ (c .next-column .ensures .1),
     )
 
-same-length-2 : tie.Need-same-length-2 Inv-loop μ-loop
-same-length-2 c =
-    let at-loop = c .before .before .before in
-    (at-loop .loop .inv) .1 .kept
-
-returns-2 : tie.Need-returns-2 Inv-loop μ-loop
+returns-2 : At tie.Need-returns-2
 returns-2 c =
-    let at-if1 = c in
-    let at-loop = at-if1 .before .before .before in
-    let at-start = at-loop .before .before in
-    let args = at-start .args in (
-      (at-loop .loop .inv .0),
-      fill-end (args .grid) (at-start .pre .0) (args .first .c) (args .limit) (args .byte) (args .out .now) (at-start .pre .3)
-          _ _ (at-loop .loop .inv .1) (at-if1 .if1 .left),
-    )
+    let l = c .before .before .before in
+    let pre = entry l .pre in
+    (l .loop .inv .0, fill-end _ (pre .0) _ _ _ _ (pre .3) _ _ (l .loop .inv .1) (c .if1 .left))
 
 pub fill-spec : {M : Type 1} → statement M
 fill-spec =
@@ -103,13 +72,13 @@ fill-spec =
     Inv-loop
     μ-loop
     loop-holds
-    same-length
+    (λ c. c .before .before .before .before .before .loop .inv .1 .kept)
     returns
-    cell-or-requires
+    (λ c κs. tt)
     add-out
     slice-write-out
     next-column-requires
     loop-less
     loop-again
-    same-length-2
+    (λ c. c .before .before .before .loop .inv .1 .kept)
     returns-2)

@@ -1,36 +1,33 @@
 use Rattle.listing.specs.Text.{instant, fields}
-use mathlib.Core.List.{[], _∷_}
+use Rattle.listing.specs.Private.{Fits}
 use Rattle.listing.proofs.Writing.{front, rest, both}
+use mathlib.Core.List.{[], _∷_}
 use borrow.Author.Needs.{needs}
 use Rattle.listing.proofs.lines.put_unknown.Statement.{statement}
 use Rattle.listing.proofs.lines.put_unknown.Tie as tie
 
-put-byte-requires : tie.Need-put-byte-requires
-put-byte-requires c κs = search needs
+-- the entry, from where the word is written
+abbrev entry : tie.After-put-byte → tie.Start
+entry c = c .before .before .before
+
+-- behind each part of the line the others fit
+behind-word : (c : tie.After-put-byte) → let args = entry c .args in Fits (c .put-byte .result) (fields (instant (args .from .0) ∷ instant (args .to .0) ∷ [])) (c .put-byte .last .0)
+behind-word c = rest (entry c .pre) (c .put-byte .ensures)
+
+behind-from : (c : tie.After-put-instant) → let args = entry (c .before .before .before .before) .args in Fits (c .put-instant .result) (fields (instant (args .to .0) ∷ [])) (c .put-instant .last .0)
+behind-from c = rest (behind-word (c .before .before .before .before)) (c .put-instant .ensures)
+
+behind-all : (c : tie.After-put-instant2) → Fits (c .put-instant2 .result) (fields []) (c .put-instant2 .last .0)
+behind-all c = rest (behind-from (c .before .before .before .before)) (c .put-instant2 .ensures)
 
 put-instant-requires : tie.Need-put-instant-requires
-put-instant-requires c κs =
-    let at-put-byte = c .before .before .before in
-    let at-start = at-put-byte .before .before .before in
-    front (fields (instant ((at-start .args .to) .0) ∷ [])) (rest (at-start .pre) (at-put-byte .put-byte .ensures))
+put-instant-requires c κs = front _ (behind-word (c .before .before .before))
 
 put-instant-requires-2 : tie.Need-put-instant-requires-2
-put-instant-requires-2 c κs =
-    let at-put-instant = c .before .before .before in
-    let at-put-byte = at-put-instant .before .before .before .before in
-    let at-start = at-put-byte .before .before .before in
-    front (fields []) (rest (rest (at-start .pre) (at-put-byte .put-byte .ensures)) (at-put-instant .put-instant .ensures))
+put-instant-requires-2 c κs = front _ (behind-from (c .before .before .before))
 
 put-byte-requires-2 : tie.Need-put-byte-requires-2
-put-byte-requires-2 c κs =
-    let at-put-instant2 = c .before .before .before in
-    let at-put-instant = at-put-instant2 .before .before .before .before in
-    let at-put-byte = at-put-instant .before .before .before .before in
-    let at-start = at-put-byte .before .before .before in
-    (rest (rest (rest (at-start .pre) (at-put-byte .put-byte .ensures)) (at-put-instant .put-instant .ensures)) (at-put-instant2 .put-instant2 .ensures))
-
-same-length : tie.Need-same-length
-same-length c = search needs
+put-byte-requires-2 c κs = behind-all (c .before .before .before)
 
 returns : tie.Need-returns
 returns c =
@@ -38,18 +35,18 @@ returns c =
     let at-put-instant2 = at-put-byte2 .before .before .before .before in
     let at-put-instant = at-put-instant2 .before .before .before .before in
     let at-put-byte = at-put-instant .before .before .before .before in
-    let at-start = at-put-byte .before .before .before in
-    let remaining = rest (at-start .pre) (at-put-byte .put-byte .ensures) in
-    both (at-start .pre) (at-put-byte .put-byte .ensures) (both remaining (at-put-instant .put-instant .ensures)
-    (both (rest remaining (at-put-instant .put-instant .ensures)) (at-put-instant2 .put-instant2 .ensures) (at-put-byte2 .put-byte2 .ensures)))
+    both (entry at-put-byte .pre) (at-put-byte .put-byte .ensures)
+    (both (behind-word at-put-byte) (at-put-instant .put-instant .ensures)
+    (both (behind-from at-put-instant) (at-put-instant2 .put-instant2 .ensures)
+    (at-put-byte2 .put-byte2 .ensures)))
 
 pub put-unknown-spec : {M : Type 1} → statement M
 put-unknown-spec =
     tie.close
     (tie.spec
-    put-byte-requires
+    (λ c κs. search needs)
     put-instant-requires
     put-instant-requires-2
     put-byte-requires-2
-    same-length
+    (λ c. search needs)
     returns)

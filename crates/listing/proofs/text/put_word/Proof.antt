@@ -1,7 +1,8 @@
 use Rattle.listing.proofs.Writing.{Going, begins, fits-next, goes-on, one-more, no-more}
 use lib.ListN.{length, drop}
 use native.Mathlib.Omega.{arith}
-use Prim.Native.Nat.{_+_, _≤_, _-_}
+use Prim.Native.Nat.{ℕ, _+_, _-_, _≤_}
+use mathlib.Core.List.{List}
 use Rattle.listing.proofs.text.put_word.Statement.{statement}
 use Rattle.listing.proofs.text.put_word.Tie as tie
 
@@ -11,44 +12,30 @@ Inv-loop out₀ at word place₀ i₀ out place i = Going out₀ at word (drop i
 abbrev μ-loop : tie.MeasureT-loop
 μ-loop out₀ at word place₀ i₀ out place i = length word - i
 
-loop-holds : tie.Need-loop-holds Inv-loop μ-loop
-loop-holds c =
-    let at-start = c .before .before in
-    (begins _ (at-start .args .at) _ (at-start .pre), omega arith)
+-- a need, or a place, at this invariant and measure
+abbrev At : (tie.InvT-loop → tie.MeasureT-loop → Type 0) → Type 0
+At it = it Inv-loop μ-loop
 
-shared-slice-read-put-byte : tie.Need-shared-slice-read-put-byte Inv-loop μ-loop
-shared-slice-read-put-byte c = omega arith
+-- the word, at a turn of the loop
+abbrev wordIn : At tie.At-loop → List ℕ
+wordIn c = c .before .before .before .args .word .now
 
-put-byte-requires : tie.Need-put-byte-requires Inv-loop μ-loop
+loop-holds : At tie.Need-loop-holds
+loop-holds c = (begins _ _ _ (c .before .before .pre), omega arith)
+
+put-byte-requires : At tie.Need-put-byte-requires
 put-byte-requires c κs =
-    let at-loop = c .before .before .before in
-    let at-start = at-loop .before .before .before in
-    fits-next (drop ((at-loop .loop .i) + 1) (at-start .args .word .now))
-    (one-more (at-start .args .word .now) (at-loop .loop .i) (omega arith) (at-loop .loop .inv .0))
+    let l = c .before .before .before in
+    fits-next (drop (l .loop .i + 1) (wordIn l)) (one-more (wordIn l) (l .loop .i) (omega arith) (l .loop .inv .0))
 
-add-i : tie.Need-add-i Inv-loop μ-loop
-add-i c = omega arith
-
-loop-less : tie.Need-loop-less Inv-loop μ-loop
-loop-less c = omega arith
-
-loop-again : tie.Need-loop-again Inv-loop μ-loop
+loop-again : At tie.Need-loop-again
 loop-again c =
     let at-put-byte = c .before .before in
-    let at-loop = at-put-byte .before .before .before .before in
-    let at-start = at-loop .before .before .before in
-    (goes-on (one-more ((at-start .args .word .now)) (at-loop .loop .i) (omega arith) ((at-loop .loop .inv) .0)) (at-put-byte .put-byte .ensures), omega arith)
+    let l = at-put-byte .before .before .before .before in
+    (goes-on (one-more (wordIn l) (l .loop .i) (omega arith) (l .loop .inv .0)) (at-put-byte .put-byte .ensures), omega arith)
 
-same-length : tie.Need-same-length Inv-loop μ-loop
-same-length c =
-    let at-loop = c .before in
-    (at-loop .loop .inv) .0 .put .kept
-
-returns : tie.Need-returns Inv-loop μ-loop
-returns c =
-    let at-loop = c .before in
-    let at-start = at-loop .before .before .before in
-    no-more ((at-start .args .word .now)) (at-loop .loop .i) (omega arith) ((at-loop .loop .inv) .0)
+returns : At tie.Need-returns
+returns c = let l = c .before in no-more (wordIn l) (l .loop .i) (omega arith) (l .loop .inv .0)
 
 pub put-word-spec : {M : Type 1} → statement M
 put-word-spec =
@@ -57,10 +44,10 @@ put-word-spec =
     Inv-loop
     μ-loop
     loop-holds
-    shared-slice-read-put-byte
+    (λ c. omega arith)
     put-byte-requires
-    add-i
-    loop-less
+    (λ c. omega arith)
+    (λ c. omega arith)
     loop-again
-    same-length
+    (λ c. c .before .loop .inv .0 .put .kept)
     returns)

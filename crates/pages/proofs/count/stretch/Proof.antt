@@ -1,5 +1,6 @@
 use native.Mathlib.Omega.{arith}
-use Prim.Native.Nat.{_-_}
+use Prim.Native.Nat.{_-_, _<_}
+use Rattle.pages.specs.Rows.{rowEnd}
 use Rattle.pages.proofs.Paging.{Rolling, rolling-none, rolling-next, coming-whole, coming-row, coming-room, coming-turn, counted}
 use Rattle.pages.proofs.count.stretch.Statement.{statement}
 use Rattle.pages.proofs.count.stretch.Tie as tie
@@ -10,100 +11,78 @@ Inv-rows out₀ end from to slot row₀ whole a₀ b₀ at₀ out row a b at = R
 abbrev μ-rows : tie.MeasureT-rows
 μ-rows out₀ end from to slot row₀ whole a₀ b₀ at₀ out row a b at = end .0 - b .0
 
-part-requires : tie.Need-part-requires Inv-rows μ-rows
-part-requires c κs = tt
+-- a need, or a place, at this invariant and measure
+abbrev At : (tie.InvT-rows → tie.MeasureT-rows → Type 0) → Type 0
+At it = it Inv-rows μ-rows
 
-shift-requires : tie.Need-shift-requires Inv-rows μ-rows
-shift-requires c κs =
-    let at-part = c in
-    let at-start = at-part .before .before .before in
-    coming-whole (at-start .pre) ((at-part .part .ensures)) (let h = at-start .good .1 .1 .1 .0 in omega (arith, h))
+-- the entry, from a turn of the loop, and where the row is counted, from where it proves too short
+abbrev entry : At tie.At-rows → At tie.Start
+entry c = c .before .before .before .before .before .before .before
 
-rows-holds : tie.Need-rows-holds Inv-rows μ-rows
-rows-holds c = rolling-none _ _ _ _ _ _ _ _ _
+abbrev counts : At tie.Else1 → At tie.After-shift2
+counts c = c .before .before .before
 
-part-requires-2 : tie.Need-part-requires-2 Inv-rows μ-rows
-part-requires-2 c κs = tt
-
-shift-requires-2 : tie.Need-shift-requires-2 Inv-rows μ-rows
-shift-requires-2 c κs =
-    let at-part2 = c in
+-- another row begins
+turns : (c : At tie.Else1)
+    → let at-rows = counts c .before .before .before in
+    (at-rows .rows .b .0 < entry at-rows .args .end .0) × (at-rows .rows .b .0 < rowEnd (entry at-rows .args .end .0) (at-rows .rows .b .0))
+turns c =
+    let at-shift2 = counts c in
+    let at-part2 = at-shift2 .before in
     let at-rows = at-part2 .before .before in
-    let at-start = at-rows .before .before .before .before .before .before .before in
-    coming-row (at-start .pre) ((at-rows .rows .inv)) ((at-part2 .part2 .ensures)) (let h = at-start .good .1 .1 .1 .0 in omega (arith, h))
+    coming-turn (entry at-rows .pre) (at-rows .rows .inv) (at-part2 .part2 .ensures) (at-shift2 .shift2 .ensures) (omega (arith, c .if1 .left))
 
-put-day-requires : tie.Need-put-day-requires Inv-rows μ-rows
+-- an instant is a number of 64 bits
+small : (c : At tie.Start) → c .args .end .0 < 18446744073709551616
+small c = let h = c .good .1 .1 .1 .0 in omega (arith, h)
+
+shift-requires : At tie.Need-shift-requires
+shift-requires c κs = let at-start = c .before .before .before in coming-whole (at-start .pre) (c .part .ensures) (small at-start)
+
+shift-requires-2 : At tie.Need-shift-requires-2
+shift-requires-2 c κs =
+    let at-rows = c .before .before in
+    coming-row (entry at-rows .pre) (at-rows .rows .inv) (c .part2 .ensures) (small (entry at-rows))
+
+put-day-requires : At tie.Need-put-day-requires
 put-day-requires c κs =
     let at-if1 = c .before .before .before in
-    let at-shift2 = at-if1 .before .before .before in
+    let at-shift2 = counts at-if1 in
     let at-part2 = at-shift2 .before in
     let at-rows = at-part2 .before .before in
-    let at-start = at-rows .before .before .before .before .before .before .before in
-    coming-room (at-start .pre) ((at-rows .rows .inv)) ((at-part2 .part2 .ensures)) ((at-shift2 .shift2 .ensures)) (omega (arith, (at-if1 .if1 .left)))
+    coming-room (entry at-rows .pre) (at-rows .rows .inv) (at-part2 .part2 .ensures) (at-shift2 .shift2 .ensures) (omega (arith, at-if1 .if1 .left))
 
-row-end-requires : tie.Need-row-end-requires Inv-rows μ-rows
-row-end-requires c κs = tt
-
-sub-renew : tie.Need-sub-renew Inv-rows μ-rows
+sub-renew : At tie.Need-sub-renew
 sub-renew c =
     let at-row-end = c .before .before in
-    let at-if1 = at-row-end .before .before .before .before .before .before .before in
-    let at-shift2 = at-if1 .before .before .before in
-    let at-part2 = at-shift2 .before in
-    let at-rows = at-part2 .before .before in
-    let at-start = at-rows .before .before .before .before .before .before .before in
-    omega (
-      arith,
-      coming-turn (at-start .pre) (at-rows .rows .inv) (at-part2 .part2 .ensures) (at-shift2 .shift2 .ensures)
-          (omega (arith, (at-if1 .if1 .left))),
-      (at-row-end .row-end .ensures),
-    )
+    omega (arith, turns (at-row-end .before .before .before .before .before .before .before), at-row-end .row-end .ensures)
 
-renew-requires : tie.Need-renew-requires Inv-rows μ-rows
-renew-requires c κs = tt
-
-rows-less : tie.Need-rows-less Inv-rows μ-rows
+rows-less : At tie.Need-rows-less
 rows-less c =
     let at-row-end = c .before .before .before in
-    let at-if1 = at-row-end .before .before .before .before .before .before .before in
-    let at-shift2 = at-if1 .before .before .before in
-    let at-part2 = at-shift2 .before in
-    let at-rows = at-part2 .before .before in
-    let at-start = at-rows .before .before .before .before .before .before .before in
-    omega (
-      arith,
-      coming-turn (at-start .pre) (at-rows .rows .inv) (at-part2 .part2 .ensures) (at-shift2 .shift2 .ensures)
-          (omega (arith, (at-if1 .if1 .left))),
-      (at-row-end .row-end .ensures),
-    )
+    omega (arith, turns (at-row-end .before .before .before .before .before .before .before), at-row-end .row-end .ensures)
 
-rows-again : tie.Need-rows-again Inv-rows μ-rows
+rows-again : At tie.Need-rows-again
 rows-again c =
-    let at-renew = c in
-    let at-row-end = at-renew .before .before .before in
+    let at-row-end = c .before .before .before in
     let at-put-day = at-row-end .before .before .before in
     let at-if1 = at-put-day .before .before .before .before in
-    let at-shift2 = at-if1 .before .before .before in
+    let at-shift2 = counts at-if1 in
     let at-part2 = at-shift2 .before in
-    let at-rows = at-part2 .before .before in
-    rolling-next (at-rows .rows .inv) (at-part2 .part2 .ensures) (at-shift2 .shift2 .ensures) (omega (arith, (at-if1 .if1 .left)))
-    (at-put-day .put-day .ensures) (at-row-end .row-end .ensures) (at-renew .renew .ensures)
+    rolling-next (at-part2 .before .before .rows .inv) (at-part2 .part2 .ensures) (at-shift2 .shift2 .ensures) (omega (arith, at-if1 .if1 .left))
+    (at-put-day .put-day .ensures) (at-row-end .row-end .ensures) (c .renew .ensures)
 
-same-length : tie.Need-same-length Inv-rows μ-rows
-same-length c =
-    let at-rows = c .before .before .before .before .before .before in
-    (at-rows .rows .inv) .kept
+same-length : At tie.Need-same-length
+same-length c = c .before .before .before .before .before .before .rows .inv .kept
 
-returns : tie.Need-returns Inv-rows μ-rows
+returns : At tie.Need-returns
 returns c =
-    let at-if1 = c in
-    let at-shift2 = at-if1 .before .before .before in
+    let at-shift2 = c .before .before .before in
     let at-part2 = at-shift2 .before in
     let at-rows = at-part2 .before .before in
     let at-shift = at-rows .before .before .before in
-    let at-part = at-shift .before in
-    counted (at-rows .rows .inv) (at-part2 .part2 .ensures) (at-shift2 .shift2 .ensures) (omega (arith, (at-if1 .if1 .taken)))
-    (at-part .part .ensures) (at-shift .shift .ensures)
+    counted (at-rows .rows .inv) (at-part2 .part2 .ensures) (at-shift2 .shift2 .ensures) (omega (arith, c .if1 .taken))
+    (at-shift .before .part .ensures) (at-shift .shift .ensures)
 
 pub stretch-spec : {M : Type 1} → statement M
 stretch-spec =
@@ -111,15 +90,15 @@ stretch-spec =
     (tie.spec
     Inv-rows
     μ-rows
-    part-requires
+    (λ c κs. tt)
     shift-requires
-    rows-holds
-    part-requires-2
+    (λ c. rolling-none _ _ _ _ _ _ _ _ _)
+    (λ c κs. tt)
     shift-requires-2
     put-day-requires
-    row-end-requires
+    (λ c κs. tt)
     sub-renew
-    renew-requires
+    (λ c κs. tt)
     rows-less
     rows-again
     same-length

@@ -10,39 +10,24 @@ Inv-loop start end count₀ at₀ count at = Cutting start end count at
 abbrev μ-loop : tie.MeasureT-loop
 μ-loop start end count₀ at₀ count at = end - at
 
-loop-holds : tie.Need-loop-holds Inv-loop μ-loop
-loop-holds c =
-    let at-start = c in
-    cutting-none ((at-start .args .start)) ((at-start .args .end)) (at-start .pre)
+-- a need, or a place, at this invariant and measure
+abbrev At : (tie.InvT-loop → tie.MeasureT-loop → Type 0) → Type 0
+At it = it Inv-loop μ-loop
 
-row-end-requires : tie.Need-row-end-requires Inv-loop μ-loop
-row-end-requires c κs = tt
+loop-holds : At tie.Need-loop-holds
+loop-holds c = cutting-none _ _ (c .pre)
 
-add-count : tie.Need-add-count Inv-loop μ-loop
-add-count c =
-    let at-loop = c .before .before in
-    omega (arith, (at-loop .loop .inv) .few)
+add-count : At tie.Need-add-count
+add-count c = omega (arith, c .before .before .loop .inv .few)
 
-loop-less : tie.Need-loop-less Inv-loop μ-loop
-loop-less c =
-    let at-row-end = c in
-    let at-loop-test = at-row-end .before in
-    omega (arith, (at-loop-test .loop-test .taken), (at-row-end .row-end .ensures))
+loop-less : At tie.Need-loop-less
+loop-less c = omega (arith, c .before .loop-test .taken, c .row-end .ensures)
 
-loop-again : tie.Need-loop-again Inv-loop μ-loop
-loop-again c =
-    let at-row-end = c in
-    let at-loop-test = at-row-end .before in
-    let at-loop = at-loop-test .before in
-    cutting-next ((at-loop .loop .inv)) (omega (arith, (at-loop-test .loop-test .taken))) ((at-row-end .row-end .ensures))
+loop-again : At tie.Need-loop-again
+loop-again c = cutting-next (c .before .before .loop .inv) (omega (arith, c .before .loop-test .taken)) (c .row-end .ensures)
 
-returns : tie.Need-returns Inv-loop μ-loop
-returns c =
-    let at-loop-test = c in
-    let at-loop = at-loop-test .before in
-    cutting-end ((at-loop .loop .inv)) (omega (arith, (at-loop-test .loop-test .left)))
+returns : At tie.Need-returns
+returns c = cutting-end (c .before .loop .inv) (omega (arith, c .loop-test .left))
 
 pub count-rows-spec : {M : Type 1} → statement M
-count-rows-spec =
-    tie.close
-    (tie.spec Inv-loop μ-loop loop-holds row-end-requires add-count loop-less loop-again returns)
+count-rows-spec = tie.close (tie.spec Inv-loop μ-loop loop-holds (λ c κs. tt) add-count loop-less loop-again returns)

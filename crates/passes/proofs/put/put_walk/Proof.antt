@@ -1,6 +1,6 @@
 use Rattle.passes.proofs.Passes.{Writing}
-use Rattle.passes.proofs.Steps.{bytesLeft, Coming, Taken, taken, turn-written, its-count, its-room, its-length, its-record, written, written-on, begun-writing, walk-put}
-use Rattle.joining.proofs.Steps.{z, left, fewer, come, shown, gone, turned, turn-fewer, found-few, stands-on, fewer-on}
+use Rattle.passes.proofs.Steps.{bytesLeft, Taken, taken, turn-written, its-count, its-room, its-length, its-record, written, written-on, begun-writing, walk-put}
+use Rattle.joining.proofs.Steps.{z, left, Coming, fewer, come, shown, gone, turned, turn-fewer, found-few, stands-on, fewer-on}
 use Rattle.answer.specs.declared.Phase.{Phase}
 use Rattle.walk.proofs.Keeping.{keeps-blank}
 use Rattle.walk.proofs.Looking.{stands-held}

@@ -7,45 +7,34 @@ use borrow.Author.Needs.{needs}
 use Rattle.plain.proofs.date.in_order.Statement.{statement}
 use Rattle.plain.proofs.date.in_order.Tie as tie
 
+-- the entry, from where the governing rule is known
+abbrev entry : tie.After-governing → tie.Start
+entry c = c .before .before .before .before .before
+
 governing-requires : tie.Need-governing-requires
-governing-requires c κs =
-    let at-start = c .before .before .before .before in
-    (at-start .pre) .1
-
-enum-told : tie.Need-enum-told
-enum-told c = search needs
-
-enum-known-rule : tie.Need-enum-known-rule
-enum-known-rule c = search needs
+governing-requires c κs = c .before .before .before .before .pre .1
 
 rises-requires : tie.Need-rises-requires
 rises-requires c κs =
     let at-rule = c .before in
     let at-governing = at-rule .before .before in
-    let at-start = at-governing .before .before .before .before .before in
-    ((at-start .pre) .0, stands-at ((at-start .args .book) .now) ((at-governing .governing .ensures) .1) ((at-rule .rule .given) .1))
+    (entry at-governing .pre .0, stands-at _ (at-governing .governing .ensures .1) (at-rule .rule .given .1))
 
 returns : tie.Need-returns
 returns c =
-    let at-enum-told = c in
-    let at-governing = at-enum-told .before .before in
-    let at-start = at-governing .before .before .before .before .before in
-    let args = at-start .args in
+    let at-governing = c .before .before in
+    let args = entry at-governing .args in
     sym (ap (inOrder (takenAt (zoneOf (args .first) (args .ats .now) (args .offsets .now)) (args .d .0)) (args .from .0) (args .to .0))
-    (sym (at-governing .governing .ensures .0) ∙ ap (ruled (args .book .now)) (at-enum-told .enum-told .given .1)))
+    (sym (at-governing .governing .ensures .0) ∙ ap (ruled (args .book .now)) (c .enum-told .given .1)))
 
 returns-2 : tie.Need-returns-2
 returns-2 c =
-    let at-rises = c in
-    let at-rule = at-rises .before .before in
+    let at-rule = c .before .before in
     let at-governing = at-rule .before .before in
-    let at-start = at-governing .before .before .before .before .before in
-    let args = at-start .args in
-    (at-rises .rises .ensures) ∙ sym (ap
-    (inOrder (takenAt (zoneOf (args .first) (args .ats .now) (args .offsets .now)) (args .d .0)) (args .from .0) (args .to .0))
+    let args = entry at-governing .args in
+    (c .rises .ensures)
+    ∙ sym (ap (inOrder (takenAt (zoneOf (args .first) (args .ats .now) (args .offsets .now)) (args .d .0)) (args .from .0) (args .to .0))
     (sym (at-governing .governing .ensures .0) ∙ ap (ruled (args .book .now)) (at-rule .rule .given .1)))
 
 pub in-order-spec : {M : Type 1} → statement M
-in-order-spec =
-    tie.close
-    (tie.spec governing-requires enum-told enum-known-rule rises-requires returns returns-2)
+in-order-spec = tie.close (tie.spec governing-requires (λ c. search needs) (λ c. search needs) rises-requires returns returns-2)

@@ -1,13 +1,15 @@
 use Rattle.plain.proofs.Looking.{rises-stops, rises-goes, rises-end}
 use Rattle.plain.specs.Deciding.{rises, takenAt}
-use Rattle.records.specs.Records.{ruleAt}
 use Rattle.zone.specs.declared.Uncertainty.the-variants.{Exact}
 use Rattle.zone.specs.declared.Boundary.{Boundary}
 use Rattle.zone.specs.Answers.{boundaryAt}
 use Rattle.zone.specs.Zone.{zoneOf}
-use lib.ListN.{length, drop}
+use Rattle.records.specs.Records.{Point, ruleAt}
+use Rattle.venue.specs.Reading.{midnight}
+use mathlib.Core.List.{List}
+use lib.ListN.{length, getD, drop}
 use native.Mathlib.Omega.{arith}
-use Prim.Native.Nat.{ℕ, _≤_, _-_}
+use Prim.Native.Nat.{ℕ, _-_, _≤_, _<_}
 use mathlib.Core.Path.{_≡_, refl, sym, ap, _∙_}
 use Rattle.plain.proofs.date.rises.Statement.{statement}
 use Rattle.plain.proofs.date.rises.Tie as tie
@@ -21,83 +23,68 @@ Inv-loop book first ats offsets rule d to place n before₀ i₀ before i =
 abbrev μ-loop : tie.MeasureT-loop
 μ-loop book first ats offsets rule d to place n before₀ i₀ before i = n - i
 
-rule-points-requires : tie.Need-rule-points-requires Inv-loop μ-loop
-rule-points-requires c κs =
-    let at-start = c .before .before .before in
-    (at-start .pre) .1
+-- a need, or a place, at this invariant and measure
+abbrev At : (tie.InvT-loop → tie.MeasureT-loop → Type 0) → Type 0
+At it = it Inv-loop μ-loop
 
-loop-holds : tie.Need-loop-holds Inv-loop μ-loop
+-- the entry, from a turn of the loop; the rule's points, and when each is on the date
+abbrev entry : At tie.At-loop → At tie.Start
+entry c = c .before .before .before .before .before
+
+abbrev pointsIn : At tie.At-loop → List Point
+pointsIn c = ruleAt (entry c .args .book .now) (entry c .args .rule) .points
+
+abbrev when : At tie.At-loop → ℕ → ℕ
+when c = let args = entry c .args in takenAt (zoneOf (args .first) (args .ats .now) (args .offsets .now)) (args .d .0)
+
+-- a point is left
+more : (c : At tie.In-loop) → c .before .loop .i < length (pointsIn (c .before))
+more c = omega (arith, c .before .before .rule-points .ensures .0, c .loop-test .taken)
+
+-- it stands where the code finds it
+found : (c : At tie.After-to-utc-at)
+    → let l = c .before .before .before in
+    c .to-utc-at .result .at .0 ≡ when l (getD (pointsIn l) (l .loop .i) midnight .time)
+found c =
+    let args = entry (c .before .before .before) .args in
+    ap (λ (b : Boundary). b .at .0)
+    ((c .to-utc-at .ensures) ∙ ap (λ (x : ℕ). boundaryAt (zoneOf (args .first) (args .ats .now) (args .offsets .now)) (args .d .0) x Exact) (c .before .point-time .ensures .0))
+
+rule-points-requires : At tie.Need-rule-points-requires
+rule-points-requires c κs = c .before .before .before .pre .1
+
+loop-holds : At tie.Need-loop-holds
 loop-holds c = (omega arith, refl)
 
-point-time-requires : tie.Need-point-time-requires Inv-loop μ-loop
-point-time-requires c κs =
-    let at-loop-test = c in
-    let at-rule-points = at-loop-test .before .before in
-    let at-start = at-rule-points .before .before .before .before in
-    ((at-start .pre) .1, (omega (arith, (at-rule-points .rule-points .ensures) .0, (at-loop-test .loop-test .taken))))
+point-time-requires : At tie.Need-point-time-requires
+point-time-requires c κs = (entry (c .before) .pre .1, more c)
 
-to-utc-at-requires : tie.Need-to-utc-at-requires Inv-loop μ-loop
-to-utc-at-requires c κs =
-    let at-start = c .before .before .before .before .before .before .before in
-    (at-start .pre) .0
+to-utc-at-requires : At tie.Need-to-utc-at-requires
+to-utc-at-requires c κs = entry (c .before .before) .pre .0
 
-returns : tie.Need-returns Inv-loop μ-loop
+returns : At tie.Need-returns
 returns c =
-    let at-if1 = c in
-    let at-to-utc-at = at-if1 .before .before .before in
-    let at-point-time = at-to-utc-at .before in
-    let at-loop-test = at-point-time .before in
-    let at-loop = at-loop-test .before in
-    let at-rule-points = at-loop .before in
-    let at-start = at-rule-points .before .before .before .before in
-    let args = at-start .args in
-    let zoneOf-is = zoneOf (args .first) (args .ats .now) (args .offsets .now) in
-    sym ((at-loop .loop .inv .1) ∙ rises-stops (takenAt zoneOf-is (args .d .0)) (args .to .0) (at-loop .loop .before) (at-loop .loop .i)
-    (ruleAt (args .book .now) (args .rule) .points) (omega (arith, (at-rule-points .rule-points .ensures .0), (at-loop-test .loop-test .taken))) (ap
-    (λ (b : Boundary). b .at .0)
-    ((at-to-utc-at .to-utc-at .ensures) ∙ ap (λ (x : ℕ). boundaryAt zoneOf-is (args .d .0) x Exact) (at-point-time .point-time .ensures .0)))
-    (at-if1 .if1 .taken))
+    let at-to-utc-at = c .before .before .before in
+    let l = at-to-utc-at .before .before in
+    sym ((l .before .loop .inv .1) ∙ rises-stops (when (l .before)) _ _ _ (pointsIn (l .before)) (more l) (found at-to-utc-at) (c .if1 .taken))
 
-add-i : tie.Need-add-i Inv-loop μ-loop
-add-i c =
-    let at-loop-test = c .before .before .before .before .before in
-    let at-rule-points = at-loop-test .before .before in
-    omega (arith, (at-rule-points .rule-points .ensures) .2, (at-loop-test .loop-test .taken))
+add-i : At tie.Need-add-i
+add-i c = let l = c .before .before .before .before .before in omega (arith, l .before .before .rule-points .ensures .2, l .loop-test .taken)
 
-loop-less : tie.Need-loop-less Inv-loop μ-loop
-loop-less c =
-    let at-loop-test = c .before .before .before .before .before in
-    omega (arith, (at-loop-test .loop-test .taken))
+loop-less : At tie.Need-loop-less
+loop-less c = omega (arith, c .before .before .before .before .before .loop-test .taken)
 
-loop-again : tie.Need-loop-again Inv-loop μ-loop
+loop-again : At tie.Need-loop-again
 loop-again c =
-    let at-if1 = c in
-    let at-to-utc-at = at-if1 .before .before .before in
-    let at-point-time = at-to-utc-at .before in
-    let at-loop-test = at-point-time .before in
-    let at-loop = at-loop-test .before in
-    let at-rule-points = at-loop .before in
-    let at-start = at-rule-points .before .before .before .before in
-    let args = at-start .args in
-    let zoneOf-is = zoneOf (args .first) (args .ats .now) (args .offsets .now) in (
-      (omega (arith, (at-rule-points .rule-points .ensures .0), (at-loop-test .loop-test .taken))),
-      (at-loop .loop .inv .1) ∙ rises-goes
-          (takenAt zoneOf-is (args .d .0)) (args .to .0) (at-loop .loop .before) (at-loop .loop .i) (ruleAt (args .book .now) (args .rule) .points)
-          (omega (arith, (at-rule-points .rule-points .ensures .0), (at-loop-test .loop-test .taken))) (ap (λ (b : Boundary). b .at .0)
-          ((at-to-utc-at .to-utc-at .ensures) ∙ ap (λ (x : ℕ). boundaryAt zoneOf-is (args .d .0) x Exact) (at-point-time .point-time .ensures .0)))
-          (at-if1 .if1 .left),
-    )
+    let at-to-utc-at = c .before .before .before in
+    let l = at-to-utc-at .before .before in
+    (omega (arith, more l), (l .before .loop .inv .1) ∙ rises-goes (when (l .before)) _ _ _ (pointsIn (l .before)) (more l) (found at-to-utc-at) (c .if1 .left))
 
-returns-2 : tie.Need-returns-2 Inv-loop μ-loop
+returns-2 : At tie.Need-returns-2
 returns-2 c =
     let at-loop-test = c .before in
-    let at-loop = at-loop-test .before in
-    let at-rule-points = at-loop .before in
-    let at-start = at-rule-points .before .before .before .before in
-    let args = at-start .args in
-    sym ((at-loop .loop .inv .1) ∙ rises-end (takenAt (zoneOf (args .first) (args .ats .now) (args .offsets .now)) (args .d .0)) (args .to .0)
-    (at-loop .loop .before) (at-loop .loop .i) (ruleAt (args .book .now) (args .rule) .points)
-    (omega (arith, (at-rule-points .rule-points .ensures .0), (at-loop-test .loop-test .left))) (at-loop .loop .inv .0))
+    let l = at-loop-test .before in
+    sym ((l .loop .inv .1) ∙ rises-end (when l) _ _ _ (pointsIn l) (omega (arith, l .before .rule-points .ensures .0, at-loop-test .loop-test .left)) (l .loop .inv .0))
 
 pub rises-spec : {M : Type 1} → statement M
 rises-spec =

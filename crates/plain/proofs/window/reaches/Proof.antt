@@ -1,11 +1,13 @@
 use Rattle.plain.proofs.Looking.{left, left-first, left-none, left-stops, left-ends, left-goes}
-use Rattle.plain.specs.Deciding.{mostDates}
+use Rattle.plain.specs.Deciding.{takenAt, plainDate, reaches, mostDates}
 use Rattle.day.specs.Governing.{governing}
-use Rattle.records.specs.Records.{ruleAt}
+use Rattle.records.specs.Records.{Rule, ruleAt}
 use Rattle.zone.specs.declared.Boundary.{Boundary}
-use Rattle.zone.specs.Zone.{zoneOf}
+use Rattle.zone.specs.Zone.{Zone, zoneOf}
 use native.Mathlib.Omega.{arith}
-use Prim.Native.Nat.{_-_, _≤_}
+use Prim.Native.Nat.{ℕ, _+_, _-_, _≤_}
+use mathlib.Core.Bool.{Bool, true}
+use mathlib.Core.Option.{Option}
 use mathlib.Core.List.{map}
 use mathlib.Core.Path.{_≡_, refl, sym, ap, _∙_}
 use borrow.Author.Tests.{not-true, not-false}
@@ -21,94 +23,86 @@ Inv-loop book first ats offsets rules d end n₀ n =
 abbrev μ-loop : tie.MeasureT-loop
 μ-loop book first ats offsets rules d end n₀ n = mostDates - n
 
-loop-holds : tie.Need-loop-holds Inv-loop μ-loop
+-- a need, or a place, at this invariant and measure
+abbrev At : (tie.InvT-loop → tie.MeasureT-loop → Type 0) → Type 0
+At it = it Inv-loop μ-loop
+
+-- the entry, from a turn of the loop; its zone and its rules
+abbrev entry : At tie.At-loop → At tie.Start
+entry c = c .before .before .before .before .before
+
+abbrev zoneIn : At tie.Start → Zone
+zoneIn c = zoneOf (c .args .first) (c .args .ats .now) (c .args .offsets .now)
+
+abbrev rulesIn : At tie.Start → ℕ → Option Rule
+rulesIn c = governing (map (ruleAt (c .args .book .now)) (c .args .rules .now))
+
+-- what is found of the dates that are left is the answer
+answers : (c : At tie.At-loop) {r : Bool}
+    → let s = entry c in
+    left (zoneIn s) (rulesIn s) (s .args .end .0) (s .args .d .0) (c .loop .n) ≡ r → r ≡ reaches (zoneIn s) (rulesIn s) (s .args .end .0) mostDates (s .args .d .0)
+answers c e = let s = entry c in left-first (zoneIn s) (rulesIn s) (s .args .end .0) (s .args .d .0) (sym (c .loop .inv .1 ∙ e))
+
+-- the date at hand, and its midnight
+abbrev dateIn : At tie.At-loop → ℕ
+dateIn c = entry c .args .d .0 + c .loop .n
+
+plain : (c : At tie.Else1) → let l = c .before .before .before .before in true ≡ plainDate (zoneIn (entry l)) (rulesIn (entry l)) (dateIn l)
+plain c = sym (not-false (c .before .is-plain-date .result) (c .if1 .left)) ∙ c .before .is-plain-date .ensures
+
+midnight : (c : At tie.After-to-utc-at) → let l = c .before .before .before .before .before in c .to-utc-at .result .at .0 ≡ takenAt (zoneIn (entry l)) (dateIn l) 0
+midnight c = ap (λ (b : Boundary). b .at .0) (c .to-utc-at .ensures)
+
+loop-holds : At tie.Need-loop-holds
 loop-holds c = (omega arith, refl)
 
-add-t13 : tie.Need-add-t13 Inv-loop μ-loop
-add-t13 c =
-    let at-loop-test = c .before in
-    let at-start = at-loop-test .before .before .before .before .before .before in
-    omega (arith, (at-start .pre) .2, (at-loop-test .loop-test .taken))
+add-t13 : At tie.Need-add-t13
+add-t13 c = let l = c .before in omega (arith, entry (l .before) .pre .2, l .loop-test .taken)
 
-is-plain-date-requires : tie.Need-is-plain-date-requires Inv-loop μ-loop
-is-plain-date-requires c κs =
-    let at-start = c .before .before .before .before .before .before .before in
-    ((at-start .pre) .0, (at-start .pre) .1)
+is-plain-date-requires : At tie.Need-is-plain-date-requires
+is-plain-date-requires c κs = let pre = entry (c .before .before) .pre in (pre .0, pre .1)
 
-returns : tie.Need-returns Inv-loop μ-loop
+returns : At tie.Need-returns
 returns c =
-    let at-if1 = c in
-    let at-is-plain-date = at-if1 .before in
-    let at-loop-test = at-is-plain-date .before .before in
-    let at-loop = at-loop-test .before in
-    let at-start = at-loop .before .before .before .before .before in
-    let args = at-start .args in
-    let zoneOf-is = zoneOf (args .first) (args .ats .now) (args .offsets .now) in
-    let g = governing (map (ruleAt (args .book .now)) (args .rules .now)) in
-    left-first zoneOf-is g (args .end .0) (args .d .0) (sym ((at-loop .loop .inv .1) ∙ left-stops zoneOf-is g (args .end .0) (args .d .0)
-    (at-loop .loop .n) (omega (arith, (at-loop-test .loop-test .taken))) (at-is-plain-date .is-plain-date .ensures)
-    (not-true (at-is-plain-date .is-plain-date .result) (at-if1 .if1 .taken))))
+    let at-is-plain-date = c .before in
+    let l = at-is-plain-date .before .before in
+    let s = entry (l .before) in
+    answers (l .before)
+    (left-stops (zoneIn s) (rulesIn s) (s .args .end .0) (s .args .d .0) (l .before .loop .n) (omega (arith, l .loop-test .taken))
+    (at-is-plain-date .is-plain-date .ensures) (not-true (at-is-plain-date .is-plain-date .result) (c .if1 .taken)))
 
-to-utc-at-requires : tie.Need-to-utc-at-requires Inv-loop μ-loop
-to-utc-at-requires c κs =
-    let at-start = c .before .before .before .before .before .before .before .before .before in
-    (at-start .pre) .0
+to-utc-at-requires : At tie.Need-to-utc-at-requires
+to-utc-at-requires c κs = entry (c .before .before .before .before) .pre .0
 
-returns-2 : tie.Need-returns-2 Inv-loop μ-loop
+returns-2 : At tie.Need-returns-2
 returns-2 c =
-    let at-if2 = c in
-    let at-to-utc-at = at-if2 .before .before .before .before in
-    let at-if1 = at-to-utc-at .before in
-    let at-is-plain-date = at-if1 .before in
-    let at-loop-test = at-is-plain-date .before .before in
-    let at-loop = at-loop-test .before in
-    let at-start = at-loop .before .before .before .before .before in
-    let args = at-start .args in
-    let zoneOf-is = zoneOf (args .first) (args .ats .now) (args .offsets .now) in
-    let g = governing (map (ruleAt (args .book .now)) (args .rules .now)) in
-    left-first zoneOf-is g (args .end .0) (args .d .0) (sym ((at-loop .loop .inv .1) ∙ left-ends zoneOf-is g (args .end .0) (args .d .0)
-    (at-loop .loop .n) (omega (arith, (at-loop-test .loop-test .taken))) (at-is-plain-date .is-plain-date .ensures)
-    (ap (λ (b : Boundary). b .at .0) (at-to-utc-at .to-utc-at .ensures)) (not-false (at-is-plain-date .is-plain-date .result) (at-if1 .if1 .left))
-    (at-if2 .if2 .taken)))
+    let at-to-utc-at = c .before .before .before .before in
+    let l = at-to-utc-at .before .before .before .before in
+    let s = entry (l .before) in
+    answers (l .before)
+    (left-ends (zoneIn s) (rulesIn s) (s .args .end .0) (s .args .d .0) (l .before .loop .n) (omega (arith, l .loop-test .taken))
+    (plain (at-to-utc-at .before)) (midnight at-to-utc-at) refl (c .if2 .taken))
 
-add-n : tie.Need-add-n Inv-loop μ-loop
-add-n c =
-    let at-loop-test = c .before .before .before .before .before .before .before .before in
-    (omega (arith, (at-loop-test .loop-test .taken)))
+add-n : At tie.Need-add-n
+add-n c = omega (arith, c .before .before .before .before .before .before .before .before .loop-test .taken)
 
-loop-less : tie.Need-loop-less Inv-loop μ-loop
-loop-less c =
-    let at-loop-test = c .before .before .before .before .before .before .before .before in
-    (omega (arith, (at-loop-test .loop-test .taken)))
+loop-less : At tie.Need-loop-less
+loop-less c = omega (arith, c .before .before .before .before .before .before .before .before .loop-test .taken)
 
-loop-again : tie.Need-loop-again Inv-loop μ-loop
+loop-again : At tie.Need-loop-again
 loop-again c =
-    let at-if2 = c in
-    let at-to-utc-at = at-if2 .before .before .before .before in
-    let at-if1 = at-to-utc-at .before in
-    let at-is-plain-date = at-if1 .before in
-    let at-loop-test = at-is-plain-date .before .before in
-    let at-loop = at-loop-test .before in
-    let at-start = at-loop .before .before .before .before .before in
-    let args = at-start .args in (
-      (omega (arith, (at-loop-test .loop-test .taken))),
-      (at-loop .loop .inv .1) ∙ left-goes
-          (zoneOf (args .first) (args .ats .now) (args .offsets .now)) (governing (map (ruleAt (args .book .now)) (args .rules .now))) (args .end .0)
-          (args .d .0) (at-loop .loop .n) (omega (arith, (at-loop-test .loop-test .taken))) (at-is-plain-date .is-plain-date .ensures)
-          (ap (λ (b : Boundary). b .at .0) (at-to-utc-at .to-utc-at .ensures)) (not-false (at-is-plain-date .is-plain-date .result) (at-if1 .if1 .left))
-          (at-if2 .if2 .left),
+    let at-to-utc-at = c .before .before .before .before in
+    let l = at-to-utc-at .before .before .before .before in
+    let s = entry (l .before) in (
+      omega (arith, l .loop-test .taken),
+      (l .before .loop .inv .1) ∙ left-goes (zoneIn s) (rulesIn s) (s .args .end .0) (s .args .d .0) (l .before .loop .n) (omega (arith, l .loop-test .taken))
+          (plain (at-to-utc-at .before)) (midnight at-to-utc-at) refl (c .if2 .left),
     )
 
-returns-3 : tie.Need-returns-3 Inv-loop μ-loop
+returns-3 : At tie.Need-returns-3
 returns-3 c =
-    let at-loop-test = c in
-    let at-loop = at-loop-test .before in
-    let at-start = at-loop .before .before .before .before .before in
-    let args = at-start .args in
-    let zoneOf-is = zoneOf (args .first) (args .ats .now) (args .offsets .now) in
-    let g = governing (map (ruleAt (args .book .now)) (args .rules .now)) in
-    left-first zoneOf-is g (args .end .0) (args .d .0) (sym
-    ((at-loop .loop .inv .1) ∙ left-none zoneOf-is g (args .end .0) (args .d .0) (at-loop .loop .n) (omega (arith, (at-loop-test .loop-test .left)))))
+    let s = entry (c .before) in
+    answers (c .before) (left-none (zoneIn s) (rulesIn s) (s .args .end .0) (s .args .d .0) (c .before .loop .n) (omega (arith, c .loop-test .left)))
 
 pub reaches-spec : {M : Type 1} → statement M
 reaches-spec =

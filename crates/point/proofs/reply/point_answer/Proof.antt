@@ -3,43 +3,52 @@ use Rattle.point.specs.Asking.{pointNumber, pointAnswer}
 use Rattle.lend.proofs.Replies.{lent-same}
 use mir.ValLaws.{toZ-ofZ}
 use mir.Syntax.{w64}
+use Prim.Native.Nat.{ℕ}
+use mathlib.Core.List.{List}
 use mathlib.Core.Path.{sym, ap}
 use native.Mathlib.Omega.{arith}
 use borrow.Author.Needs.{needs}
 use Rattle.point.proofs.reply.point_answer.Statement.{statement}
 use Rattle.point.proofs.reply.point_answer.Tie as tie
 
+abbrev start : tie.After-open → tie.Start
+start c = c .before .before .before .before .before .before .before
+
+abbrev bookIn : tie.After-open → List ℕ
+bookIn c = start c .args .book .now
+
+-- opening leaves each array as long as it was
 slice-aggregate-tell-opened : tie.Need-slice-aggregate-tell-opened
 slice-aggregate-tell-opened c =
-    let at-start = c .before .before .before .before .before .before .before .before in
-    sym (stored-length ((at-start .args .book) .now) _ _ (ats-fit ((at-start .args .book) .now)) ((c .before .«open» .ensures) .1))
+    let at-open = c .before in
+    sym (stored-length (bookIn at-open) _ _ (ats-fit (bookIn at-open)) (at-open .«open» .ensures .1))
 
 slice-aggregate-tell-opened-2 : tie.Need-slice-aggregate-tell-opened-2
 slice-aggregate-tell-opened-2 c =
-    let at-start = c .before .before .before .before .before .before .before .before .before in
-    sym (stored-length ((at-start .args .book) .now) _ _ (offsets-fit ((at-start .args .book) .now)) ((c .before .before .«open» .ensures) .2))
+    let at-open = c .before .before in
+    sym (stored-length (bookIn at-open) _ _ (offsets-fit (bookIn at-open)) (at-open .«open» .ensures .2))
 
 slice-aggregate-tell-opened-3 : tie.Need-slice-aggregate-tell-opened-3
 slice-aggregate-tell-opened-3 c =
-    let at-start = c .before .before .before .before .before .before .before .before .before .before in
-    sym (stored-length ((at-start .args .book) .now) _ _ (rules-fit ((at-start .args .book) .now)) ((c .before .before .before .«open» .ensures) .3))
+    let at-open = c .before .before .before in
+    sym (stored-length (bookIn at-open) _ _ (rules-fit (bookIn at-open)) (at-open .«open» .ensures .3))
 
 slice-aggregate-tell-opened-4 : tie.Need-slice-aggregate-tell-opened-4
 slice-aggregate-tell-opened-4 c =
-    let at-start = c .before .before .before .before .before .before .before .before .before .before .before in
-    sym (stored-length ((at-start .args .book) .now) _ _ (events-fit ((at-start .args .book) .now)) ((c .before .before .before .before .«open» .ensures) .4))
+    let at-open = c .before .before .before .before in
+    sym (stored-length (bookIn at-open) _ _ (events-fit (bookIn at-open)) (at-open .«open» .ensures .4))
 
 tell-opened-requires : tie.Need-tell-opened-requires
 tell-opened-requires c κs =
-    let at-start = c .before .before .before .before .before .before .before .before .before .before .before .before in
-    filled ((at-start .args .book) .now) _ _ _ _ (c .before .before .before .before .before .«open» .ensures) (omega arith) (omega arith) (omega arith) (omega arith)
+    let at-open = c .before .before .before .before .before in
+    filled (bookIn at-open) _ _ _ _ (at-open .«open» .ensures) (omega arith) (omega arith) (omega arith) (omega arith)
 
 returns : tie.Need-returns
 returns c =
     let at-tell-opened = c .before .before in
-    let at-start = at-tell-opened .before .before .before .before .before .before .before .before .before .before .before .before .before in
-    let z = toZ-ofZ w64 (at-start .args .at) (at-start .fits .at) in
-    lent-same (at-tell-opened .tell-opened .ensures) (ap (pointNumber (at-start .args .book .now)) z) (ap (pointAnswer (at-start .args .book .now)) z)
+    let at-open = at-tell-opened .before .before .before .before .before .before in
+    let z = toZ-ofZ w64 (start at-open .args .at) (start at-open .fits .at) in
+    lent-same (at-tell-opened .tell-opened .ensures) (ap (pointNumber (bookIn at-open)) z) (ap (pointAnswer (bookIn at-open)) z)
 
 pub point-answer-spec : {M : Type 1} → statement M
 point-answer-spec =

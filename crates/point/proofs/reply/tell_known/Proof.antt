@@ -2,123 +2,92 @@ use Rattle.lend.proofs.Replies.{lent-short, lent-written, lent-reply}
 use Rattle.tell.specs.Shown.{Shown, shown, shownForms, headForm}
 use Rattle.tell.proofs.Showing.{shown-length, shown-put}
 use Rattle.events.proofs.Order.{length-sorted}
-use Rattle.events.specs.Happenings.{found}
 use Rattle.answer.specs.Forms.{encodeAll}
+use Rattle.answer.specs.Meaning.{phaseOf}
 use Rattle.day.specs.Meaning.{heldBy}
 use Rattle.records.specs.Records.{eventAt}
 use Rattle.zone.specs.declared.Uncertainty.{Uncertainty}
 use Rattle.zone.specs.Zone.{zoneOf}
 use lib.ListN.{length}
-use mathlib.Core.List.{map}
-use Prim.Native.Nat.{_-_}
-use mathlib.Core.Path.{_≡_, refl, ap, _∙_}
+use mathlib.Core.List.{List, map}
+use Prim.Native.Nat.{ℕ, _+_, _*_}
+use mathlib.Core.Path.{_≡_, refl, sym, ap, _∙_}
 use native.Mathlib.Omega.{arith}
-use Rattle.answer.specs.Meaning.{phaseOf}
 use borrow.Author.Needs.{needs}
 use Rattle.point.proofs.reply.tell_known.Statement.{statement}
 use Rattle.point.proofs.reply.tell_known.Tie as tie
 
-count-events-requires : tie.Need-count-events-requires
-count-events-requires c κs = search needs
+abbrev start : tie.After-count-events → tie.Start
+start c = c .before .before .before .before .before .before .before .before .before .before
 
-mul-length : tie.Need-mul-length
-mul-length c = search needs
+-- what is shown of the span, and its records
+abbrev shownIn : tie.Start → Shown
+shownIn c =
+    let book = c .args .book .now in
+    let zone = zoneOf (c .args .first) (c .args .ats .now) (c .args .offsets .now) in
+    shown zone (map (eventAt book) (c .args .events .now)) (heldBy book (c .args .g))
 
-add-length : tie.Need-add-length
-add-length c = search needs
+abbrev answer : tie.Start → List ℕ
+answer c = encodeAll (shownForms (c .args .g .start .at .0) (c .args .g .end .at .0) (shownIn c))
 
-refused-requires : tie.Need-refused-requires
-refused-requires c κs = tt
+-- its events are those counted
+counted : (c : tie.After-count-events) → c .count-events .result ≡ length (shownIn (start c) .events)
+counted c = c .count-events .ensures .0 ∙ sym (length-sorted _)
+
+long : (c : tie.After-count-events) → length (answer (start c)) ≡ 105 + 35 * (c .count-events .result)
+long c = omega (arith, shown-length (start c .args .g .start .at .0) (start c .args .g .end .at .0) (shownIn (start c)), counted c)
 
 returns : tie.Need-returns
 returns c =
-    let at-refused = c in
-    let at-if1 = at-refused .before in
+    let at-if1 = c .before in
     let at-count-events = at-if1 .before in
-    let at-start = at-count-events .before .before .before .before .before .before .before .before .before .before in
-    let start-g-at0 = at-start .args .g .start .at .0 in
-    let start-g-end-at0 = at-start .args .g .end .at .0 in
-    let args = at-start .args in
-    let zoneOf-is = zoneOf (args .first) (args .ats .now) (args .offsets .now) in
-    let map-is = map (eventAt (args .book .now)) (args .events .now) in
-    let os = found zoneOf-is map-is start-g-at0 start-g-end-at0 in
-    let x : Shown = shown zoneOf-is map-is (heldBy (args .book .now) (args .g)) in
-    let e = (at-count-events .count-events .ensures) .0 in
-    lent-reply (lent-short (encodeAll (shownForms start-g-at0 start-g-end-at0 x)) _ refl
-    (omega (arith, (at-if1 .if1 .taken), e, shown-length start-g-at0 start-g-end-at0 x, length-sorted os))) (at-refused .refused .ensures)
-
-widest-requires : tie.Need-widest-requires
-widest-requires c κs = tt
-
-cast-phase-of : tie.Need-cast-phase-of
-cast-phase-of c = search needs
-
-phase-of-requires : tie.Need-phase-of-requires
-phase-of-requires c κs = search needs
-
-put-phase-requires : tie.Need-put-phase-requires
-put-phase-requires c κs = search needs
+    lent-reply (lent-short (answer (start at-count-events)) _ refl (omega (arith, at-if1 .if1 .taken, long at-count-events))) (c .refused .ensures)
 
 put-events-requires : tie.Need-put-events-requires
 put-events-requires c κs =
     let at-put-phase = c .before .before .before in
     let at-if1 = at-put-phase .before .before .before .before in
     let at-count-events = at-if1 .before in
-    let at-start = at-count-events .before .before .before .before .before .before .before .before .before .before in
-    let e = (at-count-events .count-events .ensures) .0 in (
-      (at-start .pre .0),
-      (at-start .pre .1),
-      (at-start .pre .2),
-      omega
-          (arith, e, (at-if1 .if1 .left), (at-put-phase .put-phase .ensures .behind), (at-put-phase .put-phase .ensures .kept)),
-    )
-
-answered-requires : tie.Need-answered-requires
-answered-requires c κs = tt
-
-same-length : tie.Need-same-length
-same-length c = search needs
+    let pre = start at-count-events .pre in
+    let put = at-put-phase .put-phase .ensures in
+    (pre .0, pre .1, pre .2, omega (arith, at-count-events .count-events .ensures .0, at-if1 .if1 .left, put .behind, put .kept))
 
 returns-2 : tie.Need-returns-2
 returns-2 c =
-    let at-answered = c in
-    let at-put-events = at-answered .before .before .before in
+    let at-put-events = c .before .before .before in
     let at-put-phase = at-put-events .before .before .before .before in
     let at-phase-of = at-put-phase .before in
     let at-widest = at-phase-of .before .before in
     let at-if1 = at-widest .before in
     let at-count-events = at-if1 .before in
-    let at-start = at-count-events .before .before .before .before .before .before .before .before .before .before in
-    let start-g-at0 = at-start .args .g .start .at .0 in
-    let start-g-end-at0 = at-start .args .g .end .at .0 in
-    let args = at-start .args in
-    let zoneOf-is = zoneOf (args .first) (args .ats .now) (args .offsets .now) in
-    let map-is = map (eventAt (args .book .now)) (args .events .now) in
-    let heldBy-is = heldBy (args .book .now) (args .g) in
-    let os = found zoneOf-is map-is start-g-at0 start-g-end-at0 in
-    let x : Shown = shown zoneOf-is map-is heldBy-is in
-    let e = (at-count-events .count-events .ensures) .0 in
-    let n : (at-count-events .count-events .result) ≡ length (x .events) = omega (arith, e, length-sorted os) in
-    let w = shown-put start-g-at0 start-g-end-at0 x n (ap phaseOf (at-phase-of .phase-of .ensures) ∙ ap
-    (λ (u : Uncertainty). headForm start-g-at0 start-g-end-at0 heldBy-is u (at-count-events .count-events .result)) (at-widest .widest .ensures))
-    (at-put-phase .put-phase .ensures) (at-put-events .put-events .ensures) (omega (arith, e, (at-if1 .if1 .left))) in
-    lent-reply (lent-written (encodeAll (shownForms start-g-at0 start-g-end-at0 x)) _ refl (omega (arith, e, (at-if1 .if1 .left), w .many)) (w .same)
-    (omega (arith, w .behind, w .many))) (at-answered .answered .ensures)
+    let args = start at-count-events .args in
+    let from = args .g .start .at .0 in
+    let to = args .g .end .at .0 in
+    let head = headForm from to (heldBy (args .book .now) (args .g)) in
+    let count = at-count-events .count-events .result in
+    let is-head = ap phaseOf (at-phase-of .phase-of .ensures) ∙ ap (λ (u : Uncertainty). head u count) (at-widest .widest .ensures) in
+    let w =
+    shown-put from to (shownIn (start at-count-events)) (counted at-count-events) is-head (at-put-phase .put-phase .ensures)
+    (at-put-events .put-events .ensures) (omega (arith, at-count-events .count-events .ensures .0, at-if1 .if1 .left)) in
+    lent-reply
+    (lent-written (answer (start at-count-events)) _ refl (omega (arith, at-if1 .if1 .left, long at-count-events)) (w .same)
+    (omega (arith, w .behind, w .many)))
+    (c .answered .ensures)
 
 pub tell-known-spec : {M : Type 1} → statement M
 tell-known-spec =
     tie.close
     (tie.spec
-    count-events-requires
-    mul-length
-    add-length
-    refused-requires
+    (λ c κs. search needs)
+    (λ c. search needs)
+    (λ c. search needs)
+    (λ c κs. tt)
     returns
-    widest-requires
-    cast-phase-of
-    phase-of-requires
-    put-phase-requires
+    (λ c κs. tt)
+    (λ c. search needs)
+    (λ c κs. search needs)
+    (λ c κs. search needs)
     put-events-requires
-    answered-requires
-    same-length
+    (λ c κs. tt)
+    (λ c. search needs)
     returns-2)

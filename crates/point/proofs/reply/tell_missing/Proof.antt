@@ -1,47 +1,37 @@
 use Rattle.answer.proofs.Readback.{encode-length}
 use Rattle.answer.specs.Meaning.{missingOf}
-use Rattle.answer.specs.Forms.{point, encode}
-use Rattle.lend.specs.Lending.{Lent}
-use Rattle.lend.proofs.Replies.{lent-short, lent-written}
-use Prim.Native.Nat.{_-_}
-use mathlib.Core.Path.{refl, sym, subst}
+use Rattle.answer.specs.Forms.{Form, point, encode}
+use Rattle.lend.proofs.Replies.{lent-short, lent-written, lent-reply}
+use mathlib.Core.Path.{refl}
 use native.Mathlib.Omega.{arith}
 use borrow.Author.Needs.{needs}
 use Rattle.point.proofs.reply.tell_missing.Statement.{statement}
 use Rattle.point.proofs.reply.tell_missing.Tie as tie
 
+abbrev formIn : tie.Start → Form
+formIn c = point (missingOf (c .args .t .0) (c .args .c))
+
 returns : tie.Need-returns
 returns c =
-    let at-refused = c in
-    let at-if1 = at-refused .before in
-    let at-start = at-if1 .before .before in
-    let pointed = point (missingOf (at-start .args .t .0) (at-start .args .c)) in
-    let record-bytes = encode pointed in
-    subst (Lent 0 record-bytes _ _) (sym (at-refused .refused .ensures))
-    (lent-short record-bytes _ refl (omega (arith, (at-if1 .if1 .taken), (encode-length pointed tt))))
+    let at-if1 = c .before in
+    let form = formIn (at-if1 .before .before) in
+    lent-reply (lent-short (encode form) _ refl (omega (arith, at-if1 .if1 .taken, encode-length form tt))) (c .refused .ensures)
 
 put-missing-requires : tie.Need-put-missing-requires
-put-missing-requires c κs =
-    let at-if1 = c .before in
-    omega (arith, (at-if1 .if1 .left))
+put-missing-requires c κs = omega (arith, c .before .if1 .left)
 
 same-length : tie.Need-same-length
-same-length c =
-    let at-put-missing = c .before .before .before in
-    (at-put-missing .put-missing .ensures) .kept
+same-length c = c .before .before .before .put-missing .ensures .kept
 
 returns-2 : tie.Need-returns-2
 returns-2 c =
-    let at-answered = c in
-    let at-put-missing = at-answered .before .before .before in
+    let at-put-missing = c .before .before .before in
     let at-if1 = at-put-missing .before .before in
-    let at-start = at-if1 .before .before in
-    let pointed = point (missingOf (at-start .args .t .0) (at-start .args .c)) in
-    let record-long = encode-length pointed tt in
-    let record-bytes = encode pointed in
-    subst (Lent 0 record-bytes _ _) (sym (at-answered .answered .ensures)) (lent-written record-bytes _ refl
-    (omega (arith, (at-if1 .if1 .left), record-long)) (at-put-missing .put-missing .ensures .same)
-    (omega (arith, (at-put-missing .put-missing .ensures .behind), record-long)))
+    let form = formIn (at-if1 .before .before) in
+    let put = at-put-missing .put-missing .ensures in
+    lent-reply
+    (lent-written (encode form) _ refl (omega (arith, at-if1 .if1 .left, put .many)) (put .same) (omega (arith, put .behind, put .many)))
+    (c .answered .ensures)
 
 pub tell-missing-spec : {M : Type 1} → statement M
 tell-missing-spec =

@@ -5,52 +5,51 @@ use Rattle.lend.proofs.Replies.{lent-same}
 use Rattle.answer.specs.declared.Covered.the-variants.{Between}
 use Rattle.day.specs.Meaning.{held, Placed, valuesAt}
 use Rattle.day.specs.Days.{Held}
+use Prim.Native.Nat.{ℕ}
+use mathlib.Core.List.{List}
 use mathlib.Core.Option.{Option}
 use mathlib.Core.Path.{refl, sym, ap, _∙_, subst}
 use borrow.Author.Needs.{needs}
 use Rattle.point.proofs.reply.tell_venue.Statement.{statement}
 use Rattle.point.proofs.reply.tell_venue.Tie as tie
 
+abbrev start : tie.After-point → tie.Start
+start c = c .before .before .before .before .before .before .before .before .before
+
+-- what is told of what is held at the instant
+abbrev toldIn : tie.Start → Option Held → List ℕ
+toldIn c o =
+    let values = valuesAt (c .args .book .now) (c .args .h) (c .args .ats .now) (c .args .offsets .now) (c .args .rules .now) (c .args .events .now) in
+    encodeAll (toldHeld values (Between (c .args .h .start) (c .args .h .end)) (c .args .t .0) o)
+
 point-requires : tie.Need-point-requires
 point-requires c κs =
-    let at-start = c .before .before .before .before .before .before .before .before in
-    ((at-start .pre) .zone, (at-start .pre) .rules-listed)
+    let pre = c .before .before .before .before .before .before .before .before .pre in
+    (pre .zone, pre .rules-listed)
 
 tell-known-requires : tie.Need-tell-known-requires
 tell-known-requires c κs =
     let at-g = c .before .before in
     let at-point = at-g .before .before in
-    let at-start = at-point .before .before .before .before .before .before .before .before .before in (
-      (at-start .pre .zone),
-      (at-start .pre .events-listed),
-      (at-start .pre .few),
-      subst (Placed (at-start .args .book .now)) (at-g .g .given .1)
-          (at-point .point .ensures .1),
-    )
+    let pre = start at-point .pre in
+    let placed = subst (Placed (start at-point .args .book .now)) (at-g .g .given .1) (at-point .point .ensures .1) in
+    (pre .zone, pre .events-listed, pre .few, placed)
 
 returns : tie.Need-returns
 returns c =
     let at-tell-missing = c .before .before in
     let at-enum-told = at-tell-missing .before .before in
     let at-point = at-enum-told .before .before in
-    let at-start = at-point .before .before .before .before .before .before .before .before .before in
-    let args = at-start .args in
-    lent-same (at-tell-missing .tell-missing .ensures) refl (one-form _ ∙ ap (λ (o : Option Held). encodeAll (toldHeld
-    (valuesAt (args .book .now) (args .h) (args .ats .now) (args .offsets .now) (args .rules .now) (args .events .now))
-    (Between (args .h .start) (args .h .end)) (args .t .0) o))
-    (ap (held (args .book .now)) (sym (at-enum-told .enum-told .given .1)) ∙ (at-point .point .ensures) .0))
+    let found = ap (held (start at-point .args .book .now)) (sym (at-enum-told .enum-told .given .1)) ∙ at-point .point .ensures .0 in
+    lent-same (at-tell-missing .tell-missing .ensures) refl (one-form _ ∙ ap (toldIn (start at-point)) found)
 
 returns-2 : tie.Need-returns-2
 returns-2 c =
     let at-tell-known = c .before .before in
     let at-g = at-tell-known .before .before .before in
     let at-point = at-g .before .before in
-    let at-start = at-point .before .before .before .before .before .before .before .before .before in
-    let args = at-start .args in
-    lent-same (at-tell-known .tell-known .ensures) refl (ap (λ (o : Option Held). encodeAll (toldHeld
-    (valuesAt (args .book .now) (args .h) (args .ats .now) (args .offsets .now) (args .rules .now) (args .events .now))
-    (Between (args .h .start) (args .h .end)) (args .t .0) o))
-    (ap (held (args .book .now)) (sym (at-g .g .given .1)) ∙ (at-point .point .ensures) .0))
+    let found = ap (held (start at-point .args .book .now)) (sym (at-g .g .given .1)) ∙ at-point .point .ensures .0 in
+    lent-same (at-tell-known .tell-known .ensures) refl (ap (toldIn (start at-point)) found)
 
 pub tell-venue-spec : {M : Type 1} → statement M
 tell-venue-spec =

@@ -12,27 +12,27 @@ use Rattle.tally.proofs.ask.tally_answer.Tie as tie
 slice-aggregate-tell-opened : tie.Need-slice-aggregate-tell-opened
 slice-aggregate-tell-opened c =
     let at-start = c .before .before .before .before .before .before .before .before in
-    sym (stored-length ((at-start .args .book) .now) _ _ (ats-fit ((at-start .args .book) .now)) ((c .before .«open» .ensures) .1))
+    sym (stored-length (at-start .args .book .now) _ _ (ats-fit (at-start .args .book .now)) (c .before .«open» .ensures .1))
 
 slice-aggregate-tell-opened-2 : tie.Need-slice-aggregate-tell-opened-2
 slice-aggregate-tell-opened-2 c =
     let at-start = c .before .before .before .before .before .before .before .before .before in
-    sym (stored-length ((at-start .args .book) .now) _ _ (offsets-fit ((at-start .args .book) .now)) ((c .before .before .«open» .ensures) .2))
+    sym (stored-length (at-start .args .book .now) _ _ (offsets-fit (at-start .args .book .now)) (c .before .before .«open» .ensures .2))
 
 slice-aggregate-tell-opened-3 : tie.Need-slice-aggregate-tell-opened-3
 slice-aggregate-tell-opened-3 c =
     let at-start = c .before .before .before .before .before .before .before .before .before .before in
-    sym (stored-length ((at-start .args .book) .now) _ _ (rules-fit ((at-start .args .book) .now)) ((c .before .before .before .«open» .ensures) .3))
+    sym (stored-length (at-start .args .book .now) _ _ (rules-fit (at-start .args .book .now)) (c .before .before .before .«open» .ensures .3))
 
 slice-aggregate-tell-opened-4 : tie.Need-slice-aggregate-tell-opened-4
 slice-aggregate-tell-opened-4 c =
     let at-start = c .before .before .before .before .before .before .before .before .before .before .before in
-    sym (stored-length ((at-start .args .book) .now) _ _ (events-fit ((at-start .args .book) .now)) ((c .before .before .before .before .«open» .ensures) .4))
+    sym (stored-length (at-start .args .book .now) _ _ (events-fit (at-start .args .book .now)) (c .before .before .before .before .«open» .ensures .4))
 
 tell-opened-requires : tie.Need-tell-opened-requires
 tell-opened-requires c κs =
     let at-start = c .before .before .before .before .before .before .before .before .before .before .before .before in
-    filled ((at-start .args .book) .now) _ _ _ _ (c .before .before .before .before .before .«open» .ensures) (omega arith) (omega arith) (omega arith) (omega arith)
+    filled (at-start .args .book .now) _ _ _ _ (c .before .before .before .before .before .«open» .ensures) (omega arith) (omega arith) (omega arith) (omega arith)
 
 returns : tie.Need-returns
 returns c =
@@ -40,7 +40,7 @@ returns c =
     let at-start = at-tell-opened .before .before .before .before .before .before .before .before .before .before .before .before .before in
     let y = toZ-ofZ w64 (at-start .args .start) (at-start .fits .start) in
     let z = toZ-ofZ w64 (at-start .args .end) (at-start .fits .end) in
-    lent-same (at-tell-opened .tell-opened .ensures) (ap₂ (tallyNumber ((at-start .args .book) .now)) y z) (ap₂ (tallyAnswer ((at-start .args .book) .now)) y z)
+    lent-same (at-tell-opened .tell-opened .ensures) (ap₂ (tallyNumber (at-start .args .book .now)) y z) (ap₂ (tallyAnswer (at-start .args .book .now)) y z)
 
 pub tally-answer-spec : {M : Type 1} → statement M
 tally-answer-spec =

@@ -18,9 +18,13 @@ asked c =
     let at-start = c .before .before .before .before .before .before .before in
     judged-as (at-start .args .book .now) (at-start .args .start) (at-start .args .end) (at-start .fits .start) (at-start .fits .end) (at-start .pre .answer) (c .judged-window .ensures)
 
+-- the entry, from where a venue is judged
+abbrev entry : tie.After-h → tie.Start
+entry c = c .before .before .before .before .before .before .before .before .before
+
 -- of a venue
 named : (c : tie.After-h)
-    → let args = c .before .before .before .before .before .before .before .before .before .args in
+    → let args = entry c .args in
     Named (args .book .now) (args .start) (args .end) (c .h .given .0 .0) (c .h .given .0 .1 .0) (c .h .given .0 .1 .1 .0)
 named c = judged-venue _ _ _ (sym (c .h .given .1) ∙ asked (c .before .before))
 
@@ -32,28 +36,28 @@ tell-blank-requires c κs =
 slice-aggregate-tell-tally : tie.Need-slice-aggregate-tell-tally
 slice-aggregate-tell-tally c =
     let at-h = c .before .before in
-    sym (length-take-le _ _ (ats-in (at-h .before .before .before .before .before .before .before .before .before .pre) (named at-h .known)))
+    sym (length-take-le _ _ (ats-in (entry at-h .pre) (named at-h .known)))
 
 slice-aggregate-tell-tally-2 : tie.Need-slice-aggregate-tell-tally-2
 slice-aggregate-tell-tally-2 c =
     let at-h = c .before .before .before in
-    sym (length-take-le _ _ (offsets-in (at-h .before .before .before .before .before .before .before .before .before .pre) (named at-h .known)))
+    sym (length-take-le _ _ (offsets-in (entry at-h .pre) (named at-h .known)))
 
 slice-aggregate-tell-tally-3 : tie.Need-slice-aggregate-tell-tally-3
 slice-aggregate-tell-tally-3 c =
     let at-h = c .before .before .before .before in
-    sym (length-take-le _ _ (rules-in (at-h .before .before .before .before .before .before .before .before .before .pre) (named at-h .known)))
+    sym (length-take-le _ _ (rules-in (entry at-h .pre) (named at-h .known)))
 
 slice-aggregate-tell-tally-4 : tie.Need-slice-aggregate-tell-tally-4
 slice-aggregate-tell-tally-4 c =
     let at-h = c .before .before .before .before .before in
-    sym (length-take-le _ _ (events-in (at-h .before .before .before .before .before .before .before .before .before .pre) (named at-h .known)))
+    sym (length-take-le _ _ (events-in (entry at-h .pre) (named at-h .known)))
 
 tell-tally-requires : tie.Need-tell-tally-requires
 tell-tally-requires c κs =
     let at-h = c .before .before .before .before .before .before in
     let n = named at-h in
-    (front-ready (at-h .before .before .before .before .before .before .before .before .before .pre) (n .known), known-covers (n .known), n .window .order)
+    (front-ready (entry at-h .pre) (n .known), known-covers (n .known), n .window .order)
 
 returns : tie.Need-returns
 returns c =
@@ -70,8 +74,7 @@ returns-3 : tie.Need-returns-3
 returns-3 c =
     let at-tell-tally = c .before .before in
     let at-h = at-tell-tally .before .before .before .before .before .before .before in
-    let at-start = at-h .before .before .before .before .before .before .before .before .before in
-    close-venue _ _ _ (named at-h) _ (front-values (at-start .pre) (named at-h .known)) (at-tell-tally .tell-tally .ensures)
+    close-venue _ _ _ (named at-h) _ (front-values (entry at-h .pre) (named at-h .known)) (at-tell-tally .tell-tally .ensures)
 
 pub tell-opened-spec : {M : Type 1} → statement M
 tell-opened-spec =

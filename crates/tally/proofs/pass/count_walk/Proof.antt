@@ -1,4 +1,4 @@
-use Rattle.tally.proofs.Passing.{pieces, stands-on, ComesFirst, come, shown, gone, turned, Walked, walked-none, walked-coming, walked-next, walked-less, walk-standing, turn-walked, turn-less, walk-counted}
+use Rattle.tally.proofs.Passing.{stands-on, pieces, ComesFirst, Walked, come, shown, walked-none, walked-coming, walked-next, walked-less, turned, turn-walked, turn-less, walk-counted}
 use Rattle.venue.proofs.Laws.{good-rule}
 use Rattle.walk.specs.Walking.{Stands}
 use Rattle.walk.specs.Keeping.{Keeps}
@@ -25,183 +25,102 @@ abbrev μ-pieces : tie.MeasureT-pieces
 abbrev At : (tie.InvT-pieces → tie.MeasureT-pieces → Type 0) → Type 0
 At it = it Inv-pieces μ-pieces
 
--- the piece at hand comes first
+-- the entry, from a turn of the loop
+abbrev entry : At tie.At-pieces → At tie.Start
+entry c = c .before .before .before .before .before .before .before .before .before
+
+-- the piece at hand, from where its phase is read
+abbrev piece : At tie.After-point-phase → At tie.After-q
+piece c = c .before .before .before .before .before
+
+-- it comes first
 comes-at : (c : At tie.After-q)
     → let at-pieces = c .before .before .before .before in
-    let args = at-pieces .before .before .before .before .before .before .before .before .before .args in
+    let args = entry at-pieces .args in
     ComesFirst (args .book .now) (args .first) (args .ats .now) (args .offsets .now) (args .rules .now) (args .hi .0) (at-pieces .pieces .w) (c .q .given .0 .0) (at-pieces .pieces .edges)
 comes-at c =
     let at-here = c .before .before in
     let at-pieces = at-here .before .before in
-    let at-start = at-pieces .before .before .before .before .before .before .before .before .before in
-    let args = at-start .args in
-    come (args .book .now) (args .first) (args .ats .now) (args .offsets .now) (args .rules .now) (args .hi .0) (at-start .pre .0) _ _ _ (at-pieces .pieces .inv .0) (at-here .here .ensures) (c .q .given .1)
-
-sub-begin : At tie.Need-sub-begin
-sub-begin c = omega arith
+    come _ _ _ _ (entry at-pieces .args .rules .now) _ (entry at-pieces .pre .0) (at-pieces .pieces .inv .0) (at-here .here .ensures) (c .q .given .1)
 
 begin-requires : At tie.Need-begin-requires
 begin-requires c κs =
-    let at-start = c .before .before .before .before .before .before .before in
-    ((at-start .pre) .0, (at-start .pre) .1, keeps-blank _)
+    let pre = c .before .before .before .before .before .before .before .pre in
+    (pre .0, pre .1, keeps-blank _)
 
 pieces-holds : At tie.Need-pieces-holds
-pieces-holds c =
-    let at-begin = c in
-    let at-start = at-begin .before .before .before .before .before .before .before .before in
-    let args = at-start .args in (
-      (at-begin .begin .ensures .0 .stands),
-      walked-none (args .book .now) (args .first) (args .ats .now) (args .offsets .now) (args .rules .now)
-          (args .hi .0) _ _ _ _ _ _ _,
-      (at-begin .begin .ensures .1),
-    )
+pieces-holds c = let begun = c .begin .ensures in (begun .0 .stands, walked-none _ _ _ _ _ _, begun .1)
 
 here-requires : At tie.Need-here-requires
-here-requires c κs =
-    let at-pieces = c .before in
-    stands-held ((at-pieces .pieces .inv) .0)
-
-enum-known-q : At tie.Need-enum-known-q
-enum-known-q c = search needs
-
-cast-point-phase : At tie.Need-cast-point-phase
-cast-point-phase c = search needs
+here-requires c κs = stands-held (c .before .pieces .inv .0)
 
 point-phase-requires : At tie.Need-point-phase-requires
-point-phase-requires c κs =
-    let at-q = c .before .before .before .before in
-    let at-here = at-q .before .before in
-    let at-pieces = at-here .before .before in
-    let at-start = at-pieces .before .before .before .before .before .before .before .before .before in
-    let args = at-start .args in
-    let comes = comes-at at-q in
-    (comes .fits .listed, comes .fits .point)
-
-cast-stretch : At tie.Need-cast-stretch
-cast-stretch c = search needs
+point-phase-requires c κs = let fits = comes-at (c .before .before .before .before) .fits in (fits .listed, fits .point)
 
 stretch-requires : At tie.Need-stretch-requires
 stretch-requires c κs =
     let at-point-phase = c .before .before .before in
-    let at-q = at-point-phase .before .before .before .before .before in
-    let at-here = at-q .before .before in
-    let at-pieces = at-here .before .before in
-    let at-begin = at-pieces .before in
-    let at-start = at-begin .before .before .before .before .before .before .before .before in
-    let args = at-start .args in
-    let comes = comes-at at-q in
-    walked-coming (args .book .now) (args .first) (args .ats .now) (args .offsets .now) (args .rules .now) (args .hi .0) (at-pieces .pieces .inv .1) comes
-    (at-point-phase .point-phase .ensures) (at-start .pre .2 .all) (at-start .pre .2 .last) (at-start .pre .2 .room) (walk-standing (args .book .now)
-    (args .first) (args .ats .now) (args .offsets .now) (args .rules .now) (args .hi .0) (at-begin .begin .ensures .0) (at-start .pre .2 .last)
-    (at-start .pre .2 .stands))
+    let at-q = piece at-point-phase in
+    let at-pieces = at-q .before .before .before .before in
+    walked-coming _ _ _ _ _ _ (at-pieces .pieces .inv .1) (comes-at at-q) (at-point-phase .point-phase .ensures) (at-pieces .before .begin .ensures .0)
+    (entry at-pieces .pre .2)
 
 behind-requires : At tie.Need-behind-requires
 behind-requires c κs =
-    let at-q = c .before .before .before .before .before .before .before .before .before .before .before in
-    let at-here = at-q .before .before in
-    let at-pieces = at-here .before .before in
-    let at-start = at-pieces .before .before .before .before .before .before .before .before .before in
-    let args = at-start .args in
-    let comes = comes-at at-q in
-    omega (arith, comes .fits .point, good-rule (args .book .now) _ (comes .fits .listed) .few)
+    let fits = comes-at (piece (c .before .before .before .before .before .before)) .fits in
+    omega (arith, fits .point, good-rule _ _ (fits .listed) .few)
 
 pieces-less : At tie.Need-pieces-less
 pieces-less c =
-    let at-behind = c in
-    let at-point-phase = at-behind .before .before .before .before .before .before .before in
-    let at-q = at-point-phase .before .before .before .before .before in
-    let at-here = at-q .before .before in
-    let at-pieces = at-here .before .before in
-    let at-start = at-pieces .before .before .before .before .before .before .before .before .before in
-    let args = at-start .args in
-    let comes = comes-at at-q in
-    walked-less (args .book .now) (args .first) (args .ats .now) (args .offsets .now) (args .rules .now) (args .hi .0) (at-pieces .pieces .inv .1)
-    comes (at-point-phase .point-phase .ensures) (at-behind .behind .ensures)
+    let at-point-phase = c .before .before .before .before .before .before .before in
+    let at-q = piece at-point-phase in
+    walked-less _ _ _ _ _ _ (at-q .before .before .before .before .pieces .inv .1) (comes-at at-q) (at-point-phase .point-phase .ensures) (c .behind .ensures)
 
 pieces-again : At tie.Need-pieces-again
 pieces-again c =
-    let at-behind = c in
-    let at-stretch = at-behind .before .before .before in
+    let at-stretch = c .before .before .before in
     let at-point-phase = at-stretch .before .before .before .before in
-    let at-q = at-point-phase .before .before .before .before .before in
-    let at-here = at-q .before .before in
-    let at-pieces = at-here .before .before in
-    let at-start = at-pieces .before .before .before .before .before .before .before .before .before in
-    let args = at-start .args in
-    let comes = comes-at at-q in (
-      stands-on (args .book .now) (args .first) (args .ats .now) (args .offsets .now) (args .rules .now) (args .hi .0) (at-behind .behind .ensures) (comes .stands),
-      walked-next (args .book .now) (args .first) (args .ats .now) (args .offsets .now) (args .rules .now) (args .hi .0) (at-pieces .pieces .inv .1) comes
-          (at-point-phase .point-phase .ensures) (at-stretch .stretch .ensures) (at-behind .behind .ensures),
-      (at-pieces .pieces .inv .2),
+    let at-q = piece at-point-phase in
+    let inv = at-q .before .before .before .before .pieces .inv in (
+      stands-on (c .behind .ensures) (comes-at at-q .stands),
+      walked-next _ _ _ _ _ _ (inv .1) (comes-at at-q) (at-point-phase .point-phase .ensures) (c .behind .ensures) (at-stretch .stretch .ensures),
+      inv .2,
     )
-
-enum-told : At tie.Need-enum-told
-enum-told c = search needs
 
 turn-on-requires : At tie.Need-turn-on-requires
 turn-on-requires c κs =
     let at-enum-told = c .before .before in
     let at-here = at-enum-told .before .before in
     let at-pieces = at-here .before .before in
-    let at-start = at-pieces .before .before .before .before .before .before .before .before .before in
-    let args = at-start .args in (
-      (at-start .pre .0),
-      (at-start .pre .1),
-      (at-pieces .pieces .inv .2),
-      shown (args .book .now) (args .first) (args .ats .now) (args .offsets .now)
-          (args .rules .now) (args .hi .0) (at-start .pre .0) _ _ _ (at-pieces .pieces .inv .0) (at-here .here .ensures)
-          (at-enum-told .enum-told .given .1),
-    )
-
-enum-told-2 : At tie.Need-enum-told-2
-enum-told-2 c = search needs
-
-enum-known-next : At tie.Need-enum-known-next
-enum-known-next c = search needs
+    let pre = entry at-pieces .pre in
+    (pre .0, pre .1, at-pieces .pieces .inv .2, shown _ _ _ _ (entry at-pieces .args .rules .now) _ (pre .0) (at-pieces .pieces .inv .0) (at-here .here .ensures) (at-enum-told .enum-told .given .1))
 
 pieces-less-2 : At tie.Need-pieces-less-2
 pieces-less-2 c =
     let at-next = c .before in
     let at-turn-on = at-next .before .before in
     let at-pieces = at-turn-on .before .before .before .before .before .before .before in
-    let at-start = at-pieces .before .before .before .before .before .before .before .before .before in
-    let args = at-start .args in
-    let on = turned (args .book .now) (args .first) (args .ats .now) (args .offsets .now) (args .rules .now) (args .hi .0) _ _ _
-    (at-turn-on .turn-on .ensures .0) (at-next .next .given .1) in
-    turn-less (args .book .now) (args .first) (args .ats .now) (args .offsets .now) (args .rules .now) (args .hi .0) (at-pieces .pieces .inv .1) on
+    turn-less _ _ _ _ _ _ (at-pieces .pieces .inv .1) _ _ (at-turn-on .turn-on .ensures .0) (at-next .next .given .1)
 
 pieces-again-2 : At tie.Need-pieces-again-2
 pieces-again-2 c =
     let at-next = c .before in
     let at-turn-on = at-next .before .before in
-    let at-pieces = at-turn-on .before .before .before .before .before .before .before in
-    let at-start = at-pieces .before .before .before .before .before .before .before .before .before in
-    let args = at-start .args in
-    let on = turned (args .book .now) (args .first) (args .ats .now) (args .offsets .now) (args .rules .now) (args .hi .0) _ _ _
-    (at-turn-on .turn-on .ensures .0) (at-next .next .given .1) in (
-      on .stands,
-      turn-walked (args .book .now) (args .first) (args .ats .now) (args .offsets .now) (args .rules .now) (args .hi .0)
-          (at-pieces .pieces .inv .1) on,
-      (at-turn-on .turn-on .ensures .1),
+    let told = at-turn-on .turn-on .ensures in
+    let counted = at-turn-on .before .before .before .before .before .before .before .pieces .inv .1 in (
+      turned _ _ _ _ _ _ counted _ _ (told .0) (at-next .next .given .1) .stands,
+      turn-walked _ _ _ _ _ _ counted _ _ (told .0) (at-next .next .given .1),
+      told .1,
     )
 
 same-length : At tie.Need-same-length
-same-length c =
-    let at-pieces = c .before .before .before .before .before .before .before .before .before in
-    ((at-pieces .pieces .inv) .1) .kept
+same-length c = c .before .before .before .before .before .before .before .before .before .pieces .inv .1 .kept
 
 returns : At tie.Need-returns
 returns c =
-    let at-enum-told2 = c in
-    let at-turn-on = at-enum-told2 .before .before in
+    let at-turn-on = c .before .before in
     let at-pieces = at-turn-on .before .before .before .before .before .before .before in
-    let at-begin = at-pieces .before in
-    let at-start = at-begin .before .before .before .before .before .before .before .before in
-    let args = at-start .args in
-    let none-left = gone (args .book .now) (args .first) (args .ats .now) (args .offsets .now) (args .rules .now) (args .hi .0) _ _ _
-    (at-turn-on .turn-on .ensures .0) (at-enum-told2 .enum-told2 .given .1) in
-    walk-counted (args .book .now) (args .first) (args .ats .now) (args .offsets .now) (args .rules .now) (args .hi .0) (at-pieces .pieces .inv .1)
-    (at-begin .begin .ensures .0) none-left
+    walk-counted _ _ _ _ _ _ (at-pieces .pieces .inv .1) _ _ (at-turn-on .turn-on .ensures .0) (c .enum-told2 .given .1) (at-pieces .before .begin .ensures .0)
 
 pub count-walk-spec : {M : Type 1} → statement M
 count-walk-spec =
@@ -209,22 +128,22 @@ count-walk-spec =
     (tie.spec
     Inv-pieces
     μ-pieces
-    sub-begin
+    (λ c. omega arith)
     begin-requires
     pieces-holds
     here-requires
-    enum-known-q
-    cast-point-phase
+    (λ c. search needs)
+    (λ c. search needs)
     point-phase-requires
-    cast-stretch
+    (λ c. search needs)
     stretch-requires
     behind-requires
     pieces-less
     pieces-again
-    enum-told
+    (λ c. search needs)
     turn-on-requires
-    enum-told-2
-    enum-known-next
+    (λ c. search needs)
+    (λ c. search needs)
     pieces-less-2
     pieces-again-2
     same-length

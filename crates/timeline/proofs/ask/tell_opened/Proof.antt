@@ -10,17 +10,18 @@ use borrow.Author.Needs.{needs}
 use Rattle.timeline.proofs.ask.tell_opened.Statement.{statement}
 use Rattle.timeline.proofs.ask.tell_opened.Tie as tie
 
+abbrev start : tie.After-judged-window → tie.Start
+start c = c .before .before .before .before .before .before .before
+
 -- what is judged is the book's opening and the window
 asked : (c : tie.After-judged-window)
-    → let args = c .before .before .before .before .before .before .before .args in
+    → let args = start c .args in
     c .judged-window .result ≡ judgedBy (opened (args .book .now)) (windowOf (args .start) (args .end))
-asked c =
-    let at-start = c .before .before .before .before .before .before .before in
-    judged-as (at-start .args .book .now) (at-start .args .start) (at-start .args .end) (at-start .fits .start) (at-start .fits .end) (at-start .pre .answer) (c .judged-window .ensures)
+asked c = judged-as _ _ _ (start c .fits .start) (start c .fits .end) (start c .pre .answer) (c .judged-window .ensures)
 
 -- of a venue
 named : (c : tie.After-h)
-    → let args = c .before .before .before .before .before .before .before .before .before .args in
+    → let args = start (c .before .before) .args in
     Named (args .book .now) (args .start) (args .end) (c .h .given .0 .0) (c .h .given .0 .1 .0) (c .h .given .0 .1 .1 .0)
 named c = judged-venue _ _ _ (sym (c .h .given .1) ∙ asked (c .before .before))
 
@@ -32,27 +33,27 @@ tell-empty-requires c κs =
 slice-aggregate-tell-venue : tie.Need-slice-aggregate-tell-venue
 slice-aggregate-tell-venue c =
     let at-h = c .before .before in
-    sym (length-take-le _ _ (ats-in (at-h .before .before .before .before .before .before .before .before .before .pre) (named at-h .known)))
+    sym (length-take-le _ _ (ats-in (start (at-h .before .before) .pre) (named at-h .known)))
 
 slice-aggregate-tell-venue-2 : tie.Need-slice-aggregate-tell-venue-2
 slice-aggregate-tell-venue-2 c =
     let at-h = c .before .before .before in
-    sym (length-take-le _ _ (offsets-in (at-h .before .before .before .before .before .before .before .before .before .pre) (named at-h .known)))
+    sym (length-take-le _ _ (offsets-in (start (at-h .before .before) .pre) (named at-h .known)))
 
 slice-aggregate-tell-venue-3 : tie.Need-slice-aggregate-tell-venue-3
 slice-aggregate-tell-venue-3 c =
     let at-h = c .before .before .before .before in
-    sym (length-take-le _ _ (rules-in (at-h .before .before .before .before .before .before .before .before .before .pre) (named at-h .known)))
+    sym (length-take-le _ _ (rules-in (start (at-h .before .before) .pre) (named at-h .known)))
 
 slice-aggregate-tell-venue-4 : tie.Need-slice-aggregate-tell-venue-4
 slice-aggregate-tell-venue-4 c =
     let at-h = c .before .before .before .before .before in
-    sym (length-take-le _ _ (events-in (at-h .before .before .before .before .before .before .before .before .before .pre) (named at-h .known)))
+    sym (length-take-le _ _ (events-in (start (at-h .before .before) .pre) (named at-h .known)))
 
 tell-venue-requires : tie.Need-tell-venue-requires
 tell-venue-requires c κs =
     let at-h = c .before .before .before .before .before .before in
-    front-ready (at-h .before .before .before .before .before .before .before .before .before .pre) (named at-h .known)
+    front-ready (start (at-h .before .before) .pre) (named at-h .known)
 
 returns : tie.Need-returns
 returns c =
@@ -69,8 +70,7 @@ returns-3 : tie.Need-returns-3
 returns-3 c =
     let at-tell-venue = c .before .before in
     let at-h = at-tell-venue .before .before .before .before .before .before .before in
-    let at-start = at-h .before .before .before .before .before .before .before .before .before in
-    close-venue _ _ _ (named at-h) _ (front-values (at-start .pre) (named at-h .known)) (at-tell-venue .tell-venue .ensures)
+    close-venue _ _ _ (named at-h) _ (front-values (start (at-h .before .before) .pre) (named at-h .known)) (at-tell-venue .tell-venue .ensures)
 
 pub tell-opened-spec : {M : Type 1} → statement M
 tell-opened-spec =

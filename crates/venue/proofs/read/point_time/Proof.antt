@@ -1,42 +1,25 @@
 use Rattle.venue.proofs.Listing.{point-room, time-read}
+use Rattle.records.specs.Limits.{base}
+use lib.ListN.{length}
+use Prim.Native.Nat.{_+_, _*_, _≤_}
 use native.Mathlib.Omega.{arith}
 use borrow.Author.Needs.{needs}
 use Rattle.venue.proofs.read.point_time.Statement.{statement}
 use Rattle.venue.proofs.read.point_time.Tie as tie
 
-mul-get8 : tie.Need-mul-get8
-mul-get8 c =
+-- the point stands inside the book, which is small
+inside : (c : tie.After-step-of)
+    → let args = c .before .before .args in
+    (args .at + (c .step-of .result) * (args .i) + 41 ≤ length (args .book .now)) × (length (args .book .now) ≤ base .bytes)
+inside c =
     let p = c .before .before .pre in
-    let e = c .step-of .ensures .0 in
-    let r = point-room (p .0) (p .1) in
-    let b = p .0 .small in
-    rw e (omega arith)
-
-add-get8 : tie.Need-add-get8
-add-get8 c =
-    let p = c .before .before .pre in
-    let e = c .step-of .ensures .0 in
-    let r = point-room (p .0) (p .1) in
-    let b = p .0 .small in
-    rw e (omega arith)
+    (rw (c .step-of .ensures .0) (omega (arith, point-room (p .0) (p .1))), p .0 .small)
 
 add-get8-2 : tie.Need-add-get8-2
-add-get8-2 c =
-    let p = c .before .before .before .pre in
-    let d = c .before .step-of .ensures .0 in
-    let e = c .time-place .ensures .0 in
-    let r = point-room (p .0) (p .1) in
-    let b = p .0 .small in
-    rw (d, e) (omega arith)
+add-get8-2 c = omega (arith, inside (c .before), c .time-place .ensures .0)
 
 get8-requires : tie.Need-get8-requires
-get8-requires c κs =
-    let p = c .before .before .before .pre in
-    let d = c .before .step-of .ensures .0 in
-    let e = c .time-place .ensures .0 in
-    let r = point-room (p .0) (p .1) in
-    let b = p .0 .small in
-    rw (d, e) (omega arith)
+get8-requires c κs = omega (arith, inside (c .before), c .time-place .ensures .0)
 
 returns : tie.Need-returns
 returns c =
@@ -49,8 +32,8 @@ point-time-spec =
     tie.close
     (tie.spec
     (λ c κs. search needs)
-    mul-get8
-    add-get8
+    (λ c. omega (arith, inside c))
+    (λ c. omega (arith, inside c))
     (λ c κs. search needs)
     add-get8-2
     get8-requires

@@ -1,51 +1,50 @@
 use mathlib.Core.Path.{_≡_, ap, _∙_}
-use Prim.Native.Nat.{_≤_}
+use Prim.Native.Nat.{_+_, _≤_}
+use lib.ListN.{length}
 use mir.Syntax.{w64}
 use Rattle.wire.specs.Signs.{half}
 use Rattle.records.specs.Records.{publishedAt}
 use Rattle.venue.specs.Reading.{published}
-use Rattle.venue.proofs.Listing.{uncertain-at, width-read, told, told-read, exact, granular, bounded, started}
+use Rattle.venue.proofs.Listing.{Uncertain, uncertain-at, width-read, told, told-read, exact, granular, bounded, started}
 use native.Mathlib.Omega.{arith}
 use borrow.Author.Needs.{needs}
 use Rattle.venue.proofs.read.uncertainty.Statement.{statement}
 use Rattle.venue.proofs.read.uncertainty.Tie as tie
 
-get1-requires : tie.Need-get1-requires
-get1-requires c κs =
-    let p = c .before .before .pre in
-    omega (arith, c .tag-place .ensures .0, uncertain-at (p .0) (p .1) .room)
+abbrev start : tie.After-tag-place → tie.Start
+start c = c .before .before
 
-signed8-requires : tie.Need-signed8-requires
-signed8-requires c κs =
-    let at-tag-place = c .before in
-    let p = at-tag-place .before .before .pre in
-    omega (arith, at-tag-place .tag-place .ensures .0, uncertain-at (p .0) (p .1) .room)
+uncertain : (c : tie.After-tag-place) → let args = start c .args in Uncertain (args .kind) (args .book .now) (args .at)
+uncertain c = uncertain-at (start c .pre .0) (start c .pre .1)
+
+-- its fields stand inside the book
+room : (c : tie.After-tag-place) → let args = start c .args in args .at + c .tag-place .result + 11 ≤ length (args .book .now)
+room c = omega (arith, c .tag-place .ensures .0, uncertain c .room)
 
 -- the width is not negative
 wide : (c : tie.After-signed8) → half w64 ≤ c .signed8 .result .0
-wide c =
-    let at-tag-place = c .before .before in
-    let p = at-tag-place .before .before .pre in
-    width-read (uncertain-at (p .0) (p .1)) (at-tag-place .tag-place .ensures .0) (c .signed8 .ensures)
-
-sub-nanoseconds : tie.Need-sub-nanoseconds
-sub-nanoseconds c = wide (c .before)
-
-get2-requires : tie.Need-get2-requires
-get2-requires c κs =
-    let at-tag-place = c .before .before .before in
-    let p = at-tag-place .before .before .pre in
-    omega (arith, at-tag-place .tag-place .ensures .0, uncertain-at (p .0) (p .1) .room)
+wide c = let at-tag-place = c .before .before in width-read (uncertain at-tag-place) (at-tag-place .tag-place .ensures .0) (c .signed8 .ensures)
 
 -- what was read is what is published
-told-at : (c : tie.After-get2) → let at-signed8 = c .before .before in
-    let at-start = at-signed8 .before .before .before .before in
-    told (at-signed8 .before .get1 .result) (at-signed8 .signed8 .result .0) (c .get2 .result) ≡ publishedAt (at-start .args .kind) (at-start .args .book .now) (at-start .args .at)
+told-at : (c : tie.After-get2)
+    → let at-signed8 = c .before .before in
+    let at-get1 = at-signed8 .before in
+    let args = start (at-get1 .before) .args in
+    told (at-get1 .get1 .result) (at-signed8 .signed8 .result .0) (c .get2 .result) ≡ publishedAt (args .kind) (args .book .now) (args .at)
 told-at c =
     let at-signed8 = c .before .before in
     let at-get1 = at-signed8 .before in
-    let p = at-get1 .before .before .before .pre in
-    told-read (uncertain-at (p .0) (p .1)) (at-get1 .before .tag-place .ensures .0) (at-get1 .get1 .ensures) (at-signed8 .signed8 .ensures) (c .get2 .ensures)
+    let at-tag-place = at-get1 .before in
+    told-read (uncertain at-tag-place) (at-tag-place .tag-place .ensures .0) (at-get1 .get1 .ensures) (at-signed8 .signed8 .ensures) (c .get2 .ensures)
+
+get1-requires : tie.Need-get1-requires
+get1-requires c κs = omega (arith, room c)
+
+signed8-requires : tie.Need-signed8-requires
+signed8-requires c κs = omega (arith, room (c .before))
+
+get2-requires : tie.Need-get2-requires
+get2-requires c κs = omega (arith, room (c .before .before .before))
 
 returns : tie.Need-returns
 returns c = exact _ _ _ (c .match .keys1) ∙ ap published (told-at (c .before))
@@ -68,7 +67,7 @@ uncertainty-spec =
     get1-requires
     (λ c. search needs)
     signed8-requires
-    sub-nanoseconds
+    (λ c. wide (c .before))
     (λ c. search needs)
     get2-requires
     returns

@@ -6,12 +6,9 @@ use Rattle.zone.proofs.convert.reading_of.Tie as tie
 
 returns : tie.Need-returns
 returns c =
-    let at-offset-at = c in
-    let at-nearest = at-offset-at .before in
-    let at-start = at-nearest .before .before .before in
-    let args = at-start .args in
-    reading-by (zoneOf (args .first) (args .ats .now) (args .offsets .now)) (args .t .0) (at-nearest .nearest .result)
-    (at-offset-at .offset-at .result) (at-nearest .nearest .ensures) (at-offset-at .offset-at .ensures .0)
+    let at-nearest = c .before in
+    let args = at-nearest .before .before .before .args in
+    reading-by (zoneOf (args .first) (args .ats .now) (args .offsets .now)) (args .t .0) _ _ (at-nearest .nearest .ensures) (c .offset-at .ensures .0)
 
 pub reading-of-spec : {M : Type 1} → statement M
 reading-of-spec =

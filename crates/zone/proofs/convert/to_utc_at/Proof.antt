@@ -6,15 +6,12 @@ use Rattle.zone.proofs.convert.to_utc_at.Tie as tie
 
 returns : tie.Need-returns
 returns c =
-    let at-uncertain = c in
-    let at-taken = at-uncertain .before in
+    let at-taken = c .before in
     let at-to-utc = at-taken .before in
     let at-reading-at = at-to-utc .before in
-    let at-start = at-reading-at .before .before .before in
-    let args = at-start .args in
-    boundary-by (zoneOf (args .first) (args .ats .now) (args .offsets .now)) (args .d .0) (args .time) (at-reading-at .reading-at .result .0)
-    (args .published) (at-uncertain .uncertain .result) (at-to-utc .to-utc .result) (at-taken .taken .result .0) (at-reading-at .reading-at .ensures)
-    (at-to-utc .to-utc .ensures) (at-taken .taken .ensures) (at-uncertain .uncertain .ensures)
+    let args = at-reading-at .before .before .before .args in
+    boundary-by (zoneOf (args .first) (args .ats .now) (args .offsets .now)) (args .d .0) (args .time) _ (args .published) _ _ _
+    (at-reading-at .reading-at .ensures) (at-to-utc .to-utc .ensures) (at-taken .taken .ensures) (c .uncertain .ensures)
 
 pub to-utc-at-spec : {M : Type 1} → statement M
 to-utc-at-spec =

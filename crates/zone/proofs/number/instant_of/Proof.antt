@@ -10,21 +10,14 @@ use Rattle.zone.proofs.number.instant_of.Statement.{statement}
 use Rattle.zone.proofs.number.instant_of.Tie as tie
 
 returns : tie.Need-returns
-returns c =
-    let at-if1 = c in
-    let at-start = at-if1 .before in
-    sym (within-low ((at-start .args .p) .0) (at-if1 .if1 .taken))
+returns c = sym (within-low (c .before .args .p .0) (c .if1 .taken))
 
 returns-2 : tie.Need-returns-2
-returns-2 c =
-    let at-if2 = c in
-    let at-start = at-if2 .before .before in
-    sym (within-high ((at-start .args .p) .0) (at-if2 .if2 .taken))
+returns-2 c = sym (within-high (c .before .before .args .p .0) (c .if2 .taken))
 
 returns-3 : tie.Need-returns-3
 returns-3 c =
-    let at-start = c .before .before in
-    let p = (at-start .args .p) .0 in
+    let p = c .before .before .args .p .0 in
     let back : p - instantZero + instantZero ≡ p = omega arith in
     ap some (instant-placed (p - instantZero) ∙ ap (meant w64) back) ∙ sym (within-yes p (omega arith) (omega arith))
 

@@ -2,7 +2,7 @@ use Rattle.zone.proofs.Passing.{getD-within}
 use lib.ListN.{length, getD}
 use native.Mathlib.Omega.{arith}
 use native.Mathlib.Numerals.{add-one}
-use Prim.Native.Nat.{_+_, _-_, _/_, _≤_, _<_, _^_}
+use Prim.Native.Nat.{ℕ, _+_, _-_, _/_, _≤_, _<_, _^_}
 use mathlib.Core.Path.{_≡_}
 use mathlib.Core.List.{_∷_}
 use Rattle.zone.proofs.search.bisected.Statement.{statement}
@@ -15,32 +15,29 @@ Inv-loop ats t from to low₀ high₀ low high =
 abbrev μ-loop : tie.MeasureT-loop
 μ-loop ats t from to low₀ high₀ low high = high - low
 
-loop-holds : tie.Need-loop-holds Inv-loop μ-loop
-loop-holds c =
-    let at-start = c in
-    let b = at-start .pre in
-    (b .order, b .most, b .last, b .next)
+-- a need, or a place, at this invariant and measure
+abbrev At : (tie.InvT-loop → tie.MeasureT-loop → Type 0) → Type 0
+At it = it Inv-loop μ-loop
 
-loop-again : tie.Need-loop-again Inv-loop μ-loop
-loop-again c =
-    let at-if1 = c in
-    let at-loop = at-if1 .before .before .before in
-    let m = (at-loop .loop .low) + ((at-loop .loop .high) - (at-loop .loop .low)) / 2 in
-    (omega arith, omega arith, rw (add-one m) (at-if1 .if1 .taken), (at-loop .loop .inv .3))
+abbrev middle : At tie.At-loop → ℕ
+middle c = c .loop .low + (c .loop .high - c .loop .low) / 2
 
-loop-again-2 : tie.Need-loop-again-2 Inv-loop μ-loop
+loop-holds : At tie.Need-loop-holds
+loop-holds c = (c .pre .order, c .pre .most, c .pre .last, c .pre .next)
+
+loop-again : At tie.Need-loop-again
+loop-again c = let l = c .before .before .before in (omega arith, omega arith, rw (add-one (middle l)) (c .if1 .taken), l .loop .inv .3)
+
+loop-again-2 : At tie.Need-loop-again-2
 loop-again-2 c =
-    let at-if1 = c in
-    let at-loop = at-if1 .before .before .before in
-    let at-start = at-loop .before in
-    let m = (at-loop .loop .low) + ((at-loop .loop .high) - (at-loop .loop .low)) / 2 in
-    (omega arith, omega arith, (at-loop .loop .inv .2), rw (getD-within ((at-start .args .ats) .now) m (2 ^ 64) 0 (omega arith)) (at-if1 .if1 .left))
+    let l = c .before .before .before in
+    (omega arith, omega arith, l .loop .inv .2, rw (getD-within (l .before .args .ats .now) (middle l) (2 ^ 64) 0 (omega arith)) (c .if1 .left))
 
-returns : tie.Need-returns Inv-loop μ-loop
+returns : At tie.Need-returns
 returns c =
-    let at-loop = c .before in
-    let e : (at-loop .loop .high) ≡ (at-loop .loop .low) = omega arith in
-    record { most = omega arith; last = (at-loop .loop .inv .2); next = rw e at (at-loop .loop .inv .3) }
+    let l = c .before in
+    let e : l .loop .high ≡ l .loop .low = omega arith in
+    record { most = omega arith; last = l .loop .inv .2; next = rw e at (l .loop .inv .3) }
 
 pub bisected-spec : {M : Type 1} → statement M
 bisected-spec =

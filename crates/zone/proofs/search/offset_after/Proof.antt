@@ -9,10 +9,9 @@ use Rattle.zone.proofs.search.offset_after.Tie as tie
 
 returns-2 : tie.Need-returns-2
 returns-2 c =
-    let at-start = c .before .before in
-    let n = (at-start .args .count) in
-    let z : suc (n - 1) ≡ n = omega arith in
-    ap (λ (k : ℕ). getD ((at-start .args .first) ∷ (at-start .args .offsets) .now) k 0) z
+    let args = c .before .before .args in
+    let z : suc (args .count - 1) ≡ args .count = omega arith in
+    ap (λ (k : ℕ). getD (args .first ∷ args .offsets .now) k 0) z
 
 pub offset-after-spec : {M : Type 1} → statement M
 offset-after-spec =

@@ -3,7 +3,7 @@ use mathlib.Core.Path.{sym, ap, subst, _∙_}
 use Prim.Native.Nat.{ℕ, _+_, _-_, _≤_, _<_}
 use Rattle.zone.specs.declared.steady.Steady.the-variants.{By}
 use Rattle.zone.specs.Steady.{marginNs}
-use Rattle.zone.specs.Zone.{zoneOf}
+use Rattle.zone.specs.Zone.{Zone, zoneOf}
 use Rattle.zone.proofs.Offsets.{offset-passed}
 use Rattle.zone.proofs.Passing.{next-far}
 use Rattle.zone.proofs.Shifts.{steady-early, steady-late, steady-not, steady-by, none-true, none-false, next-near}
@@ -11,74 +11,52 @@ use borrow.Author.Needs.{needs}
 use Rattle.zone.proofs.steady.steady_offset.Statement.{statement}
 use Rattle.zone.proofs.steady.steady_offset.Tie as tie
 
+abbrev start : tie.Else1 → tie.Start
+start c = c .before .before .before .before
+
+abbrev zoneIn : tie.Start → Zone
+zoneIn c = zoneOf (c .args .first) (c .args .ats .now) (c .args .offsets .now)
+
+-- 56 hours before the stretch, and 56 hours after it
+abbrev low : tie.Start → ℕ
+low c = c .args .from .0 - marginNs
+
+abbrev high : tie.Start → ℕ
+high c = c .args .to .0 + marginNs
+
 returns : tie.Need-returns
-returns c =
-    let at-if1 = c in
-    let at-start = at-if1 .before .before .before .before in
-    let args = at-start .args in
-    sym (steady-early (zoneOf (args .first) (args .ats .now) (args .offsets .now)) (args .from .0) (args .to .0) (at-if1 .if1 .taken))
+returns c = sym (steady-early (zoneIn (c .before .before .before .before)) _ _ (c .if1 .taken))
 
 returns-2 : tie.Need-returns-2
-returns-2 c =
-    let at-if2 = c in
-    let at-if1 = at-if2 .before .before in
-    let at-start = at-if1 .before .before .before .before in
-    let args = at-start .args in
-    sym
-    (steady-late (zoneOf (args .first) (args .ats .now) (args .offsets .now)) (args .from .0) (args .to .0) (at-if1 .if1 .left) (at-if2 .if2 .taken))
-
-sub-passed : tie.Need-sub-passed
-sub-passed c = search needs
-
-passed-requires : tie.Need-passed-requires
-passed-requires c κs = tt
-
-next-at-requires : tie.Need-next-at-requires
-next-at-requires c κs = tt
-
-add-if3 : tie.Need-add-if3
-add-if3 c = search needs
+returns-2 c = let at-if1 = c .before .before in sym (steady-late (zoneIn (start at-if1)) _ _ (at-if1 .if1 .left) (c .if2 .taken))
 
 returns-3 : tie.Need-returns-3
 returns-3 c =
-    let at-if3 = c in
-    let at-next-at = at-if3 .before .before in
+    let at-next-at = c .before .before in
     let at-passed = at-next-at .before in
     let at-if2 = at-passed .before .before in
     let at-if1 = at-if2 .before .before in
-    let at-start = at-if1 .before .before .before .before in
-    let args = at-start .args in
-    let start-to-0--arginNs = (args .to .0) + marginNs in
-    let near = next-near (args .ats .now) (at-passed .passed .result) start-to-0--arginNs
-    (subst (λ (r : ℕ). r ≤ (args .to .0) + marginNs) (at-next-at .next-at .ensures) (at-if3 .if3 .taken)) (omega arith) in
-    sym (steady-not (zoneOf (args .first) (args .ats .now) (args .offsets .now)) (args .from .0) (args .to .0) (at-if1 .if1 .left) (at-if2 .if2 .left)
-    (none-false ((args .from .0) - marginNs) start-to-0--arginNs (at-passed .passed .result) (args .ats .now) (args .offsets .now)
-    (at-start .pre .spaced) (at-start .pre .alike) (at-passed .passed .ensures) (near .0) (near .1)))
-
-offset-after-requires : tie.Need-offset-after-requires
-offset-after-requires c κs = search needs
+    let s = start at-if1 in
+    let k = at-passed .passed .result in
+    let next = subst (λ (r : ℕ). r ≤ high s) (at-next-at .next-at .ensures) (c .if3 .taken) in
+    let near = next-near (s .args .ats .now) k (high s) next (omega arith) in
+    let some = none-false (low s) (high s) k _ _ (s .pre .spaced) (s .pre .alike) (at-passed .passed .ensures) (near .0) (near .1) in
+    sym (steady-not (zoneIn s) _ _ (at-if1 .if1 .left) (at-if2 .if2 .left) some)
 
 returns-4 : tie.Need-returns-4
 returns-4 c =
-    let at-offset-after = c in
-    let at-if3 = at-offset-after .before in
+    let at-if3 = c .before in
     let at-next-at = at-if3 .before .before in
     let at-passed = at-next-at .before in
     let at-if2 = at-passed .before .before in
     let at-if1 = at-if2 .before .before in
-    let at-start = at-if1 .before .before .before .before in
-    let start-offsets = at-start .args .offsets .now in
-    let args = at-start .args in
-    let start-from-0--arginNs = (args .from .0) - marginNs in
-    let start-to-0--arginNs = (args .to .0) + marginNs in
-    let far = next-far (args .ats .now) (at-passed .passed .result) start-to-0--arginNs
-    (subst (λ (r : ℕ). (args .to .0) + marginNs < r) (at-next-at .next-at .ensures) (at-if3 .if3 .left)) in
-    let none = none-true start-from-0--arginNs start-to-0--arginNs (at-passed .passed .result) (args .ats .now) start-offsets (at-start .pre .spaced)
-    (at-passed .passed .ensures) (omega arith) (omega arith) far in
-    let is = offset-passed start-from-0--arginNs (args .first) (at-passed .passed .result) (args .ats .now) start-offsets (at-start .pre .spaced)
-    (at-start .pre .alike) (at-passed .passed .ensures) in
-    ap By (at-offset-after .offset-after .ensures) ∙ sym
-    (steady-by (zoneOf (args .first) (args .ats .now) start-offsets) (args .from .0) (args .to .0) _ (at-if1 .if1 .left) (at-if2 .if2 .left) none is)
+    let s = start at-if1 in
+    let k = at-passed .passed .result in
+    let next = subst (λ (r : ℕ). high s < r) (at-next-at .next-at .ensures) (at-if3 .if3 .left) in
+    let far = next-far (s .args .ats .now) k (high s) next in
+    let none = none-true (low s) (high s) k _ _ (s .pre .spaced) (at-passed .passed .ensures) (omega arith) (omega arith) far in
+    let is = offset-passed (low s) (s .args .first) k _ _ (s .pre .spaced) (s .pre .alike) (at-passed .passed .ensures) in
+    ap By (c .offset-after .ensures) ∙ sym (steady-by (zoneIn s) _ _ _ (at-if1 .if1 .left) (at-if2 .if2 .left) none is)
 
 pub steady-offset-spec : {M : Type 1} → statement M
 steady-offset-spec =
@@ -86,10 +64,10 @@ steady-offset-spec =
     (tie.spec
     returns
     returns-2
-    sub-passed
-    passed-requires
-    next-at-requires
-    add-if3
+    (λ c. search needs)
+    (λ c κs. tt)
+    (λ c κs. tt)
+    (λ c. search needs)
     returns-3
-    offset-after-requires
+    (λ c κs. search needs)
     returns-4)
