@@ -138,38 +138,50 @@ fn book_a(days: i32) -> Vec<u8> {
     ])
 }
 
-/// The least time of `tries`, each the mean of `calls`, in nanoseconds.
-fn best(tries: usize, calls: usize, mut call: impl FnMut()) -> f64 {
-    (0..tries)
-        .map(|_| {
-            let from = Instant::now();
-            for _ in 0..calls {
-                call();
-            }
-            from.elapsed().as_nanos() as f64 / calls as f64
-        })
-        .fold(f64::INFINITY, f64::min)
+/// The mean of so many calls, in nanoseconds.
+fn mean(calls: u32, call: &mut dyn FnMut()) -> f64 {
+    let from = Instant::now();
+    for _ in 0..calls {
+        call();
+    }
+    from.elapsed().as_nanos() as f64 / f64::from(calls)
 }
 
-fn told(name: &str, ours: f64, given: f64, length: usize) {
+/// Times both sides in turn, so that they have the same machine: the least of ten means or more, for half a second or longer. A mean is
+/// of as many calls as a millisecond has room for, and of one where it has room for none.
+fn compared(name: &str, length: usize, mut given: impl FnMut(), mut ours: impl FnMut()) {
+    let from = Instant::now();
+    let sides: [&mut dyn FnMut(); 2] = [&mut given, &mut ours];
+    let mut sides = sides.map(|side| {
+        let calls = (1e6 / mean(1, side)).max(1.0) as u32;
+        (side, calls, f64::INFINITY)
+    });
+    let mut tries = 0;
+    while tries < 10 || from.elapsed().as_millis() < 500 {
+        for (side, calls, least) in &mut sides {
+            *least = least.min(mean(*calls, side));
+        }
+        tries += 1;
+    }
+    let [given, ours] = sides.map(|(_, _, least)| least);
     println!(
         "{name:<32} {ours:>12.0} ns {given:>13.0} ns {:>8.1} {length:>9} bytes",
         given / ours
     );
 }
 
-fn answered(name: &str, book: &[u8], query: Query, tries: usize, calls: usize) {
+fn answered(name: &str, book: &[u8], query: Query) {
     let venue = Venue::open(book).expect("a good book");
     let length = venue.answer(&query).expect("an answer").len();
     let mut room = Room::new(length);
     assert_eq!(port::ask(book, &query, &mut room), (0, length));
-    let given = best(tries, calls, || {
+    let given = || {
         black_box(venue.timed(black_box(&query)));
-    });
-    let ours = best(tries, calls, || {
+    };
+    let ours = || {
         black_box(port::ask(black_box(book), black_box(&query), &mut room));
-    });
-    told(name, ours, given, length);
+    };
+    compared(name, length, given, ours);
 }
 
 /// So many days in so many columns, now marked.
@@ -183,39 +195,39 @@ fn drawing(days: i64, columns: i64) -> Cells {
     }
 }
 
-fn drawn_cells(name: &str, bytes: &[u8], days: i64, columns: i64, calls: usize) {
+fn drawn_cells(name: &str, bytes: &[u8], days: i64, columns: i64) {
     let asked = drawing(days, columns);
     let timeline = drawn::timeline(&row::row(bytes).expect("a good row"));
     let length = columns as usize + 2;
     let mut room = Room::new(length);
     assert_eq!(port::cells(bytes, &asked, &mut room), (0, length));
-    let given = best(10, calls, || {
+    let given = || {
         black_box(drawn::render(black_box(&timeline), &asked));
-    });
-    let ours = best(10, calls, || {
+    };
+    let ours = || {
         black_box(port::cells(black_box(bytes), &asked, &mut room));
-    });
-    told(name, ours, given, length);
+    };
+    compared(name, length, given, ours);
 }
 
-fn counted(name: &str, bytes: &[u8], days: i64, calls: usize) {
+fn counted(name: &str, bytes: &[u8], days: i64) {
     let marked: Vec<u8> = (0..ROWS)
         .flat_map(|number| [make_rows::mark(number), bytes.to_vec()].concat())
         .collect();
     let rows = drawn::rows(&row::marked(&marked).expect("good rows"));
     let at = YEAR + days * DAY / 2;
     assert_eq!(port::count(&marked, at).0, 0);
-    let given = best(10, calls, || {
+    let given = || {
         black_box(drawn::counted(black_box(&rows), at));
-    });
-    let ours = best(10, calls, || {
+    };
+    let ours = || {
         black_box(port::count(black_box(&marked), at));
-    });
-    told(name, ours, given, marked.len());
+    };
+    compared(name, marked.len(), given, ours);
 }
 
 /// A row from the book itself: the window resolved, then drawn. The original begins with its ruleset.
-fn drawn_from_the_book(name: &str, book: &[u8], days: i64, columns: i64, calls: usize) {
+fn drawn_from_the_book(name: &str, book: &[u8], days: i64, columns: i64) {
     let asked = drawing(days, columns);
     let window = Query::Window {
         start: asked.start,
@@ -225,34 +237,36 @@ fn drawn_from_the_book(name: &str, book: &[u8], days: i64, columns: i64, calls: 
     let mut row = Room::new(venue.answer(&window).expect("an answer").len());
     let length = columns as usize + 2;
     let mut room = Room::new(length);
-    let given = best(10, calls, || {
+    let given = || {
         let timeline = venue.timeline(black_box(asked.start), asked.end);
         black_box(drawn::render(&timeline, &asked));
-    });
-    let ours = best(10, calls, || {
+    };
+    let ours = || {
         let (_, written) = port::ask(black_box(book), &window, &mut row);
         black_box(port::cells(&row.bytes()[..written], &asked, &mut room));
-    });
-    told(name, ours, given, length);
+    };
+    compared(name, length, given, ours);
 }
 
 /// Rows of a day from the book itself, and their count.
-fn counted_from_the_book(name: &str, book: &[u8], calls: usize) {
+fn counted_from_the_book(name: &str, book: &[u8]) {
     let window = Query::Window {
         start: YEAR,
         end: YEAR + DAY,
     };
     let at = YEAR + DAY / 2;
     let venue = Venue::open(book).expect("a good book");
-    let mut row = Room::new(venue.answer(&window).expect("an answer").len());
+    let length = venue.answer(&window).expect("an answer").len();
+    let mut row = Room::new(length);
     let mut marked = Vec::new();
-    let given = best(10, calls, || {
+    let length = usize::from(ROWS) * (make_rows::mark(0).len() + length);
+    let given = || {
         let rows: Vec<BoardRow> = (0..ROWS)
             .map(|_| BoardRow::new(venue.timeline(YEAR, black_box(YEAR + DAY)), None))
             .collect();
         black_box(drawn::counted(&rows, at));
-    });
-    let ours = best(10, calls, || {
+    };
+    let ours = || {
         marked.clear();
         for number in 0..ROWS {
             let (_, written) = port::ask(black_box(book), &window, &mut row);
@@ -260,8 +274,8 @@ fn counted_from_the_book(name: &str, book: &[u8], calls: usize) {
             marked.extend_from_slice(&row.bytes()[..written]);
         }
         black_box(port::count(&marked, at));
-    });
-    told(name, ours, given, marked.len());
+    };
+    compared(name, length, given, ours);
 }
 
 /// A year of a book with so many rules over ten years, of so many points, and so many clock changes in and around the year.
@@ -292,7 +306,7 @@ fn growth() {
         start: YEAR,
         end: YEAR + n * DAY,
     };
-    let asked = |name: String, book: &[u8], n: i64| answered(&name, book, days(n), 10, 1);
+    let asked = |name: String, book: &[u8], n: i64| answered(&name, book, days(n));
     for rules in [1, 4, 16, 64, 256] {
         asked(format!("a year, {rules} rules"), &grown(rules, 2, 4), 365);
     }
@@ -316,7 +330,7 @@ fn growth() {
 }
 
 /// A book's rows of a day and of a year drawn, and a hundred of them counted: from the book, and from the rows themselves.
-fn rows_of(name: &str, book: &[u8], calls: usize) {
+fn rows_of(name: &str, book: &[u8]) {
     for days in [1, 365] {
         let window = Query::Window {
             start: YEAR,
@@ -326,16 +340,16 @@ fn rows_of(name: &str, book: &[u8], calls: usize) {
         let row = venue.answer(&window).expect("an answer");
         for columns in [12, 512] {
             let what = format!("{name}, {days} d in {columns}");
-            drawn_from_the_book(&format!("{what}, book"), book, days, columns, calls);
-            drawn_cells(&format!("{what}, row"), &row, days, columns, calls);
+            drawn_from_the_book(&format!("{what}, book"), book, days, columns);
+            drawn_cells(&format!("{what}, row"), &row, days, columns);
         }
         let what = format!("{name}, {days} d, count of {ROWS}");
         if days == 1 {
-            counted_from_the_book(&format!("{what}, book"), book, calls);
+            counted_from_the_book(&format!("{what}, book"), book);
         }
         // A hundred years of the largest book are 390 MB.
         if row.len() < 1 << 20 {
-            counted(&format!("{what}, row"), &row, days, calls);
+            counted(&format!("{what}, row"), &row, days);
         }
     }
 }
@@ -354,36 +368,16 @@ pub fn run() {
         end: YEAR + 365 * DAY,
     };
     let (small, rich, largest) = (book_a(3650), rich(), largest());
-    for (name, book, tries, calls) in [
-        ("A", &small, 10, 10),
-        ("rich", &rich, 10, 1),
-        ("largest", &largest, 3, 1),
-    ] {
-        let small_calls = calls * 50;
-        answered(&format!("{name}, a point"), book, point, tries, small_calls);
-        answered(
-            &format!("{name}, a day"),
-            book,
-            window(1),
-            tries,
-            small_calls,
-        );
-        answered(&format!("{name}, a year"), book, window(365), tries, calls);
-        answered(&format!("{name}, ten years"), book, window(3650), tries, 1);
-        answered(
-            &format!("{name}, a year's tally"),
-            book,
-            tally,
-            tries,
-            calls,
-        );
+    let books = [("A", &small), ("rich", &rich), ("largest", &largest)];
+    for (name, book) in books {
+        answered(&format!("{name}, a point"), book, point);
+        answered(&format!("{name}, a day"), book, window(1));
+        answered(&format!("{name}, a year"), book, window(365));
+        answered(&format!("{name}, ten years"), book, window(3650));
+        answered(&format!("{name}, a year's tally"), book, tally);
     }
-    for (name, book, calls) in [
-        ("A", &small, 20),
-        ("rich", &rich, 20),
-        ("largest", &largest, 1),
-    ] {
-        rows_of(name, book, calls);
+    for (name, book) in books {
+        rows_of(name, book);
     }
     growth();
 }
