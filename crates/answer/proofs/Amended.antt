@@ -66,7 +66,8 @@ begun-amends p {s} {t} {at} w i =
 
 -- ---- the rest is written
 
-over-and-behind : (at : ℕ) (x y z : List ℕ) {s t u v r : List ℕ} {n m i j k l : ℕ} → s ≡ wrote s at (x ++ (y ++ z)) → Inside at (length (x ++ (y ++ z)) + l) s
+over-and-behind : (at : ℕ) (x y z : List ℕ) {s t u v r : List ℕ} {n m i j k l : ℕ} → s ≡ wrote s at (x ++ (y ++ z))
+    → Inside at (length (x ++ (y ++ z)) + l) s
     → Put s n v k t i → n ≡ at + length x → k ≡ length y → Put t m r l u j → m ≡ at + length (x ++ (y ++ z)) → u ≡ wrote s at ((x ++ (v ++ z)) ++ r)
 over-and-behind at x y z {s} {t} {u} {v} {r} {n} {m} stands fits a b c d e =
     let same = a .many ∙ c in
@@ -74,7 +75,8 @@ over-and-behind at x y z {s} {t} {u} {v} {r} {n} {m} stands fits a b c d e =
     let long : length (x ++ (v ++ z)) ≡ length (x ++ (y ++ z)) = simp length-append (omega arith) in
     d .same ∙ ap (λ (l : List ℕ). wrote l m r) over ∙ wrote-wrote s at m (x ++ (v ++ z)) r (omega arith) (omega (arith, d .many))
 
-pub amended : (p : Phase) {s t u : List ℕ} {at q r : ℕ} → Amends s at p → Put s (at + 12) (signed8 (phaseOf p .end)) 8 t q → Put t (at + 55) (back (phaseOf p)) 50 u r
+pub amended : (p : Phase) {s t u : List ℕ} {at q r : ℕ} → Amends s at p → Put s (at + 12) (signed8 (phaseOf p .end)) 8 t q
+    → Put t (at + 55) (back (phaseOf p)) 50 u r
     → Put s at (encode (phase (phaseOf p))) 105 u r
 unfolding bytes
 amended p {s} {t} {u} {at} a x y =
@@ -89,7 +91,8 @@ amended p {s} {t} {u} {at} a x y =
     }
 
 -- the front, and then the whole
-pub begun-put : (p : Phase) {s t u : List ℕ} {at q r : ℕ} → Put s at (front (phaseOf p)) 55 t q → Put t at (encode (phase (phaseOf p))) 105 u r → Inside at 105 s
+pub begun-put : (p : Phase) {s t u : List ℕ} {at q r : ℕ} → Put s at (front (phaseOf p)) 55 t q → Put t at (encode (phase (phaseOf p))) 105 u r
+    → Inside at 105 s
     → Put s at (encode (phase (phaseOf p))) 105 u r
 begun-put p {s} {at = at} a b i =
     let x = encode (phase (phaseOf p)) in

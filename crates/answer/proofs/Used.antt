@@ -65,7 +65,8 @@ phase-bytes-fit p h =
       events = h .events;
     }
 
-pub event-bytes-fit : (code : ℕ) (b : Boundary) (evidence : ℕ) → code < 2 ^ 16 → UsedBoundary b → evidence < 2 ^ 16 → Fitting (event (eventOf code b evidence))
+pub event-bytes-fit : (code : ℕ) (b : Boundary) (evidence : ℕ) → code < 2 ^ 16 → UsedBoundary b → evidence < 2 ^ 16
+    → Fitting (event (eventOf code b evidence))
 event-bytes-fit code b evidence c h e =
     record { code = c; at = instant-fits (b .at .0) (h .at); uncertainty = values-fit (b .uncertainty) (h .uncertainty); evidence = e }
 

@@ -47,7 +47,8 @@ fn put_instant(out: &mut [u8], at: usize, t: Instant) -> usize
 
 fn put_span(out: &mut [u8], at: usize, start: Instant, end: Instant) -> usize
     requires { ⌜ Inside at 16 (now out) ⌝ }
-    ensures { λ r. ⌜ Put (now (out .entry)) at (bytes 8 (ofZ w64 (instantNumber (start .0))) ++ bytes 8 (ofZ w64 (instantNumber (end .0)))) 16 (now (out .exit)) r ⌝ }
+    ensures { λ r. ⌜ Put (now (out .entry)) at
+        (bytes 8 (ofZ w64 (instantNumber (start .0))) ++ bytes 8 (ofZ w64 (instantNumber (end .0)))) 16 (now (out .exit)) r ⌝ }
 {
     let a = put_instant(out, at, start);
     put_instant(out, a, end)
@@ -146,7 +147,8 @@ fn put_rule(
     derived: u16,
 ) -> usize
     requires { ⌜ Inside at 8 (now out) ⌝ }
-    ensures { λ r. ⌜ Put (now (out .entry)) at (bytes 1 phase ++ (bytes 1 code ++ (bytes 2 label ++ (bytes 2 evidence ++ bytes 2 derived)))) 8 (now (out .exit)) r ⌝ }
+    ensures { λ r. ⌜ Put (now (out .entry)) at
+        (bytes 1 phase ++ (bytes 1 code ++ (bytes 2 label ++ (bytes 2 evidence ++ bytes 2 derived)))) 8 (now (out .exit)) r ⌝ }
 {
     let a = put1(out, at, phase);
     let b = put1(out, a, code);
@@ -256,7 +258,9 @@ fn put_each(out: &mut [u8], at: usize, totals: &[u64]) -> usize
 // A row's edges and its totals, of which there are ten.
 fn put_row(out: &mut [u8], at: usize, start: Instant, end: Instant, totals: &[u64]) -> usize
     requires { ⌜ (length (now totals) ≡ 10) × Inside at 96 (now out) ⌝ }
-    ensures { λ r. ⌜ Put (now (out .entry)) at ((bytes 8 (ofZ w64 (instantNumber (start .0))) ++ bytes 8 (ofZ w64 (instantNumber (end .0)))) ++ totalsBytes (now (totals .entry))) 96 (now (out .exit)) r ⌝ }
+    ensures { λ r. ⌜ Put (now (out .entry)) at
+        ((bytes 8 (ofZ w64 (instantNumber (start .0))) ++ bytes 8 (ofZ w64 (instantNumber (end .0)))) ++ totalsBytes (now (totals .entry)))
+        96 (now (out .exit)) r ⌝ }
 {
     let a = put_span(out, at, start, end);
     put_each(out, a, totals)

@@ -159,7 +159,8 @@ module _ (start end columns : ℕ) (marked : Bool) (at : ℕ) where
   pub marker-late : end ≤ at → columns ≡ markerColumn start end columns marked at
   marker-late h = simp (le-ltb at end h, and-no)
 
-  pub marker-in : marked ≡ true → start ≤ at → at < end → (r : ℕ) → r ≡ (at - start) * columns / (end - start) → r ≡ markerColumn start end columns marked at
+  pub marker-in : marked ≡ true → start ≤ at → at < end → (r : ℕ) → r ≡ (at - start) * columns / (end - start)
+      → r ≡ markerColumn start end columns marked at
   marker-in e a b r q = simp (e, le-leb start at a, lt-ltb at end b) q
 
 -- what is gone in 416 days, for each column

@@ -310,7 +310,8 @@ module _ (g : Grid) (o : Good g) (s old : List ℕ) (room : g .columns + 2 ≤ l
         d .painted .same ∙ ap (λ (n : ℕ). wrote old 1 (cellsFrom g (segments s) n 0)) z
 
 -- brackets enclose
-pub enclosed : (g : Grid) (ss : List (Span Rows.Seen)) (old mid : List ℕ) → g .columns + 2 ≤ length old → mid ≡ wrote (set old 0 91) 1 (cellsFrom g ss (g .columns) 0)
+pub enclosed : (g : Grid) (ss : List (Span Rows.Seen)) (old mid : List ℕ) → g .columns + 2 ≤ length old
+    → mid ≡ wrote (set old 0 91) 1 (cellsFrom g ss (g .columns) 0)
     → (n : ℕ) → n ≡ 1 + g .columns → set mid n 93 ≡ wrote old 0 (drawn g ss)
 enclosed g ss old mid room e n q =
     let cs = cellsFrom g ss (g .columns) 0 in

@@ -37,14 +37,16 @@ abbrev pub madeGrid : ℕ → ℕ → ℕ → ℕ → Grid
 madeGrid start end many marker = record { start = start; span = end - start; columns = many; marker = marker }
 
 -- the cells alter no length
-pub mid-length : (g : Grid) (row room mid : List ℕ) → g .columns + 2 ≤ length room → mid ≡ wrote (set room 0 91) 1 (cellsFrom g (segments row) (g .columns) 0)
+pub mid-length : (g : Grid) (row room mid : List ℕ) → g .columns + 2 ≤ length room
+    → mid ≡ wrote (set room 0 91) 1 (cellsFrom g (segments row) (g .columns) 0)
     → length mid ≡ length room
 mid-length g row room mid l w =
     let k = length-set room 0 91 in
     let n = cells-length g (segments row) (g .columns) 0 in
     ap length w ∙ wrote-length (set room 0 91) 1 (cellsFrom g (segments row) (g .columns) 0) (omega arith) ∙ k
 
-pub end-length : (g : Grid) (row room mid : List ℕ) → g .columns + 2 ≤ length room → mid ≡ wrote (set room 0 91) 1 (cellsFrom g (segments row) (g .columns) 0)
+pub end-length : (g : Grid) (row room mid : List ℕ) → g .columns + 2 ≤ length room
+    → mid ≡ wrote (set room 0 91) 1 (cellsFrom g (segments row) (g .columns) 0)
     → (n : ℕ) → length (set mid n 93) ≡ length room
 end-length g row room mid l w n = length-set mid n 93 ∙ mid-length g row room mid l w
 
@@ -59,7 +61,8 @@ module _ (row : List ℕ) (start end : ℕ) (columns : ℤ) (marked : Bool) (at 
     few : columnsOf columns ≤ 512
     few = omega arith
 
-    pub told-bad : goodRow row ≡ false → r ≡ record { number = 15; length = 0 } → Lent (judgedCells row columns) (text row start end columns marked at) room room r
+    pub told-bad : goodRow row ≡ false → r ≡ record { number = 15; length = 0 }
+        → Lent (judgedCells row columns) (text row start end columns marked at) room room r
     told-bad g q =
         let n : 15 ≡ judgedCells row columns = simp (le-ltb 512 (columnsOf columns) few, g) in
         lent-same (lent-reply (lent-refused (text row start end columns marked at) room {number = 15} (λ z. omega arith)) q) n refl
@@ -71,12 +74,14 @@ module _ (row : List ℕ) (start end : ℕ) (columns : ℤ) (marked : Bool) (at 
       long : length (text row start end columns marked at) ≡ columnsOf columns + 2
       long = drawn-length (gridOf start end (columnsOf columns) marked at) (segments row)
 
-      pub told-short : length room < many + 2 → r ≡ record { number = 16; length = 0 } → Lent (judgedCells row columns) (text row start end columns marked at) room room r
+      pub told-short : length room < many + 2 → r ≡ record { number = 16; length = 0 }
+          → Lent (judgedCells row columns) (text row start end columns marked at) room room r
       told-short l q = lent-reply (lent-short (text row start end columns marked at) room passes (omega (arith, long))) q
 
       pub told : many + 2 ≤ length room → (m : ℕ) → m ≡ markerColumn start end many marked at
           → (mid : List ℕ) → mid ≡ wrote (set room 0 91) 1 (cellsFrom (madeGrid start end many m) (segments row) many 0)
-          → r ≡ record { number = 0; length = many + 2 } → Lent (judgedCells row columns) (text row start end columns marked at) room (set mid (many + 2 - 1) 93) r
+          → r ≡ record { number = 0; length = many + 2 }
+          → Lent (judgedCells row columns) (text row start end columns marked at) room (set mid (many + 2 - 1) 93) r
       told l m q mid w i =
           let k : madeGrid start end many m ≡ gridOf start end (columnsOf columns) marked at =
           ap (madeGrid start end many) q ∙ ap (λ (x : ℕ). madeGrid start end x (markerColumn start end x marked at)) e in
@@ -122,7 +127,8 @@ module _ (row : List ℕ) (start end columns : ℤ) (marked : Bool) (at : ℤ) (
           let v = window-between start end w in
           omega (arith, placed-in start (v .start-in), placed-in end (v .end-in), v .start, v .end, v .order)
 
-      pub cells-told : (left : List ℕ) (r : Reply) → Lent (judgedCells row columns) (text row (placed w64 start) (placed w64 end) columns marked (placed w64 at)) room left r
+      pub cells-told : (left : List ℕ) (r : Reply)
+          → Lent (judgedCells row columns) (text row (placed w64 start) (placed w64 end) columns marked (placed w64 at)) room left r
           → Lent (cellsNumber row start end columns marked at) (cellsAnswer row start end columns marked at) room left r
       unfolding cellsNumber cellsAnswer
       cells-told left r t =

@@ -204,7 +204,8 @@ module _ {s : List ℕ} {at : ℕ} {t : Seen} (here : Here s at t) where
     go-at zero h e = absurd (omega (arith, open-at))
     go-at (suc turns) h e = (turns, refl, simp (lt-leb (length s) at open-at, e))
 
-    pub on : Framed s at → numberAt base s at (here .before) ≡ 0 → (t′ : Seen) → Counts t′ (recordAt s at ∷ here .before) → (next : ℕ) → next ≡ nextAt s at → Here s next t′
+    pub on : Framed s at → numberAt base s at (here .before) ≡ 0 → (t′ : Seen) → Counts t′ (recordAt s at ∷ here .before) → (next : ℕ)
+        → next ≡ nextAt s at → Here s next t′
     on f e t′ counts next to =
         let g = go-at (here .turns) (here .enough) e in
         let w = f .whole in
@@ -443,5 +444,6 @@ module _ {s : List ℕ} {at : ℕ} {t : Seen} {k : ℕ} (n : Known s at t k) (i 
   pub transition-9 : ltb (turned w64 (number transitionInstant s at)) (t .least) ≡ true → 9 ≡ refusal base s
   transition-9 e = close-9 looking (omega arith) h5 refl h7 h8 (sym (close-is n i) ∙ e)
 
-  pub on-transition : ltb (turned w64 (number transitionInstant s at)) (t .least) ≡ false → (t′ : Seen) → t′ ≡ oneMore s at t → (next : ℕ) → next ≡ nextAt s at → Here s next t′
+  pub on-transition : ltb (turned w64 (number transitionInstant s at)) (t .least) ≡ false → (t′ : Seen) → t′ ≡ oneMore s at t → (next : ℕ)
+      → next ≡ nextAt s at → Here s next t′
   on-transition h9 = on-all looking (omega arith) h5 refl h7 h8 (sym (close-is n i) ∙ h9)

@@ -48,7 +48,8 @@ module _ (s : List ℕ) (at k : ℕ) where
       ap (leb dayNs) q ∙ sym (or-no (leb dayNs (number (time k) s at)))
       ∙ ap (λ (b : Bool). leb dayNs (number (time k) s at) || (b && ltb 7 (number (phase k) s at))) (sym (ne-eqb k 3 n))
 
-  pub item-point : (t p r : ℕ) → k ≡ 3 → t ≡ number (time k) s at → p ≡ time k .from → r ≡ field 1 s (at + p + 8) → (leb dayNs t || ltb 7 r) ≡ badItem s k at
+  pub item-point : (t p r : ℕ) → k ≡ 3 → t ≡ number (time k) s at → p ≡ time k .from → r ≡ field 1 s (at + p + 8)
+      → (leb dayNs t || ltb 7 r) ≡ badItem s k at
   item-point t p r i q e u =
       let z : at + p + 8 ≡ at + (time k .from + 8) = omega arith in
       let w : r ≡ number (phase k) s at = u ∙ ap (λ (j : ℕ). field 1 s j) z in

@@ -106,7 +106,8 @@ module _ {s rules : List ℕ} {d : ℕ} {best : Governed} {i : ℕ} (c : Choosin
     unfolding governingFrom
     step = rw (add-one i) (sym (ap (λ (l : List ℕ). governingFrom (ruled s best) (map (ruleAt s) l) d) (drop-cons rules i 0 h)) ∙ c .same)
 
-    pub choose-one : {now : Governed} {t : Bool} → AllListed 3 s rules → t ≡ takes (ruled s best) here d → t ≡ true → now ≡ By (getD rules i 0) → Choosing s rules d now (i + 1)
+    pub choose-one : {now : Governed} {t : Bool} → AllListed 3 s rules → t ≡ takes (ruled s best) here d → t ≡ true → now ≡ By (getD rules i 0)
+        → Choosing s rules d now (i + 1)
     choose-one {now} l t y e =
         rw e
         (record {

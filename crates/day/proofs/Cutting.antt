@@ -276,7 +276,8 @@ module _ (z : Zone) (r : Rule) (d : ℕ) where
         ∙ ap (λ (b : Bool). cond b (some (bodyOf (length (r .points)) k)) (after t (left (suc k)))) (sym (tested-is k h) ∙ e)
         ∙ ap₂ (λ (x y : Boundary). some (record { start = x; end = y; phase = phaseOf k; rule = r })) (sym (start-is k h)) (sym (end-is k h))
 
-    pub scan-answer : (k : ℕ) → k < length (r .points) → ((j : ℕ) → j < k → tested j ≡ false) → tested k ≡ true → {s e : Boundary} {p : ℕ} → s ≡ at a k → e ≡ at a (k + 1)
+    pub scan-answer : (k : ℕ) → k < length (r .points) → ((j : ℕ) → j < k → tested j ≡ false) → tested k ≡ true → {s e : Boundary} {p : ℕ}
+        → s ≡ at a k → e ≡ at a (k + 1)
         → p ≡ phaseOf k → some (record { start = s; end = e; phase = p; rule = r }) ≡ after t (ofPoints v r d (r .points))
     scan-answer k h f g {p = p} x y q =
         ap₂ (λ (b c : Boundary). some (record { start = b; end = c; phase = p; rule = r })) x y

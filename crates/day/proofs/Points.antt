@@ -50,7 +50,8 @@ module _ (z : Zone) (g : ℕ → Option Rule) (d t : ℕ) where
   day-none e = sym (ap (λ (o : Option Rule). after t (ofRule (venueBy z g) d o)) e)
 
   -- one does
-  pub day-some : (r : Rule) → g d ≡ some r → (o : Option Held) → o ≡ after t (ofPoints (venueBy z (λ x. none)) r d (r .points)) → o ≡ after t (spans (venueBy z g) d)
+  pub day-some : (r : Rule) → g d ≡ some r → (o : Option Held) → o ≡ after t (ofPoints (venueBy z (λ x. none)) r d (r .points))
+      → o ≡ after t (spans (venueBy z g) d)
   unfolding spans
   day-some r e o q = q ∙ ap (after t) (points-same z (λ x. none) g r d (r .points) ∙ sym (ap (ofRule (venueBy z g) d) e))
 
@@ -112,7 +113,8 @@ look-after lo hi t (s ∷ ss) w o =
     go false e true f more = more
     go false e false f more = more
 
-pub look-day : (z : Zone) (g : ℕ → Option Rule) (d t : ℕ) → look (λ (h : Held). h) (spans (venueBy z g) d) t ≡ begunHeld (after t (spans (venueBy z g) d)) t
+pub look-day : (z : Zone) (g : ℕ → Option Rule) (d t : ℕ)
+    → look (λ (h : Held). h) (spans (venueBy z g) d) t ≡ begunHeld (after t (spans (venueBy z g) d)) t
 look-day z g d t =
     let w = spans-within (venueBy z g) d in
     look-after (w .0) (w .1) t (spans (venueBy z g) d) (w .2) (spans-honest z g d)
@@ -166,7 +168,8 @@ module _ (v : Venue Held) (c : Part) (t : ℕ) where
       go true = simp (le-ltb t (c .end) h)
       go false = refl
 
-  pub point-inside : c .start ≤ t → t < c .end → orElse (on (v .reads t - 1)) (orElse (on (v .reads t)) (on (suc (v .reads t)))) ≡ pointAt (λ (h : Held). h) v c t
+  pub point-inside : c .start ≤ t → t < c .end
+      → orElse (on (v .reads t - 1)) (orElse (on (v .reads t)) (on (suc (v .reads t)))) ≡ pointAt (λ (h : Held). h) v c t
   unfolding pointAt
   point-inside h l =
       sym (simp (le-leb (c .start) t h, lt-ltb t (c .end) l)

@@ -52,7 +52,8 @@ point-whole v t h e = go (inside (v .coverage) t) e
     none-some : none ≡ some h → ⊥
     none-some q = let y : _≡_ {A = ℕ} 0 1 = cc in omega arith
 
-    later : (s : Span Held) → s .body ≡ h → s .from ≤ t → t < s .to → In s (spans (venueOf v) (dateAt (v .zone) t)) ⊎ In s (spans (venueOf v) (suc (dateAt (v .zone) t))) → Whole v t h
+    later : (s : Span Held) → s .body ≡ h → s .from ≤ t → t < s .to
+        → In s (spans (venueOf v) (dateAt (v .zone) t)) ⊎ In s (spans (venueOf v) (suc (dateAt (v .zone) t))) → Whole v t h
     later s b f l (inl i) = record { date = dateAt (v .zone) t; span = s; one = i; is = b; begun = f; going = l }
     later s b f l (inr i) = record { date = suc (dateAt (v .zone) t); span = s; one = i; is = b; begun = f; going = l }
 

@@ -31,7 +31,8 @@ pub fn day_span_after(
 ) -> Spanned
     requires { ⌜ Valid first (now ats) (now offsets) × AllListed 3 (now book) (now rules) ⌝ }
     ensures { λ r. ⌜ (held (now (book .entry)) r
-        ≡ after (t .0) (spans (venueBy (zoneOf first (now (ats .entry)) (now (offsets .entry))) (Governing·governing (map (ruleAt (now (book .entry))) (now (rules .entry))))) (d .0)))
+        ≡ after (t .0) (spans (venueBy (zoneOf first (now (ats .entry)) (now (offsets .entry)))
+        (Governing·governing (map (ruleAt (now (book .entry))) (now (rules .entry))))) (d .0)))
         × Placed (now (book .entry)) r ⌝ }
 {
     match governing(book, rules, d) {
@@ -70,7 +71,8 @@ fn day_holding(
 ) -> Spanned
     requires { ⌜ Valid first (now ats) (now offsets) × AllListed 3 (now book) (now rules) ⌝ }
     ensures { λ r. ⌜ (held (now (book .entry)) r
-        ≡ look (λ (h : Held). h) (spans (venueBy (zoneOf first (now (ats .entry)) (now (offsets .entry))) (Governing·governing (map (ruleAt (now (book .entry))) (now (rules .entry))))) (d .0)) (t .0))
+        ≡ look (λ (h : Held). h) (spans (venueBy (zoneOf first (now (ats .entry)) (now (offsets .entry)))
+        (Governing·governing (map (ruleAt (now (book .entry))) (now (rules .entry))))) (d .0)) (t .0))
         × Placed (now (book .entry)) r ⌝ }
 {
     begun(day_span_after(book, first, ats, offsets, rules, d, t), t)
@@ -99,7 +101,8 @@ pub fn point(
 ) -> Spanned
     requires { ⌜ Valid first (now ats) (now offsets) × AllListed 3 (now book) (now rules) ⌝ }
     ensures { λ r. ⌜ (held (now (book .entry)) r
-        ≡ pointAt (λ (h : Held). h) (venueBy (zoneOf first (now (ats .entry)) (now (offsets .entry))) (Governing·governing (map (ruleAt (now (book .entry))) (now (rules .entry))))) (record { start = start .0; end = end .0 }) (t .0))
+        ≡ pointAt (λ (h : Held). h) (venueBy (zoneOf first (now (ats .entry)) (now (offsets .entry)))
+        (Governing·governing (map (ruleAt (now (book .entry))) (now (rules .entry))))) (record { start = start .0; end = end .0 }) (t .0))
         × Placed (now (book .entry)) r ⌝ }
 {
     if t.0 < start.0 {

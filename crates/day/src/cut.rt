@@ -84,7 +84,8 @@ pub fn span_after(
 ) -> Spanned
     requires { ⌜ Valid first (now ats) (now offsets) × Listed 3 (now book) rule ⌝ }
     ensures { λ r. ⌜ (held (now (book .entry)) r
-        ≡ after (t .0) (ofPoints (venueBy (zoneOf first (now (ats .entry)) (now (offsets .entry))) (λ x. none)) (ruleAt (now (book .entry)) rule) (d .0) (ruleAt (now (book .entry)) rule .points)))
+        ≡ after (t .0) (ofPoints (venueBy (zoneOf first (now (ats .entry)) (now (offsets .entry))) (λ x. none))
+        (ruleAt (now (book .entry)) rule) (d .0) (ruleAt (now (book .entry)) rule .points)))
         × Placed (now (book .entry)) r ⌝ }
 {
     let place = rule as usize;

@@ -73,7 +73,8 @@ fn takes(book: &[u8], best: Governed, at: usize, d: Day) -> bool
 // The rule that governs a date, of those that stand at the places given.
 pub fn governing(book: &[u8], rules: &[u32], d: Day) -> Governed
     requires { ⌜ AllListed 3 (now book) (now rules) ⌝ }
-    ensures { λ r. ⌜ (ruled (now (book .entry)) r ≡ Governing·governing (map (ruleAt (now (book .entry))) (now (rules .entry))) (d .0)) × Stands (now (book .entry)) r ⌝ }
+    ensures { λ r. ⌜ (ruled (now (book .entry)) r ≡ Governing·governing (map (ruleAt (now (book .entry))) (now (rules .entry))) (d .0))
+        × Stands (now (book .entry)) r ⌝ }
 {
     let mut best = Governed::Nothing;
     let mut i: usize = 0;

@@ -24,7 +24,8 @@ module _ (o : ℕ → Occurrence) (n : ℕ) where
   best-none r h = simp (le-ltb r n h)
 
   -- it comes before the best so far, whose instant is `first`
-  better-by : (best first t : ℕ) (p : Occurrence) → best ≤ n → instant p ≡ t → (best < n → instant (o best) ≡ first) → better (bestAt o n best) p ≡ eqb best n || ltb t first
+  better-by : (best first t : ℕ) (p : Occurrence) → best ≤ n → instant p ≡ t → (best < n → instant (o best) ≡ first)
+      → better (bestAt o n best) p ≡ eqb best n || ltb t first
   better-by best first t p h e f = go (decLt best n)
     where
       go : Dec (best < n) → better (bestAt o n best) p ≡ eqb best n || ltb t first

@@ -43,7 +43,8 @@ pub unsteady : {s : Steady} (book events : List ℕ) (from to : ℕ) (a b : List
 unsteady book events from to a b e = rw e (record { answer = refl; instants-kept = refl; places-kept = refl })
 
 pub all-kept : {s : Steady} (book events : List ℕ) (from to : ℕ) {a b a′ b′ : List ℕ} {o n : ℕ} → s ≡ By o
-    → Keeps a b 0 (keptDates book events o from to (dayBy o from) (suc (dayBy o to - dayBy o from))) a′ b′ n → Collects s book events from to a b (All n) a′ b′
+    → Keeps a b 0 (keptDates book events o from to (dayBy o from) (suc (dayBy o to - dayBy o from))) a′ b′ n
+    → Collects s book events from to a b (All n) a′ b′
 all-kept book events from to {n = n} e k =
     let c = k .count in
     rw e (record { answer = ap All (omega arith); instants-kept = k .instants-kept; places-kept = k .places-kept })
@@ -66,7 +67,8 @@ module _ (book : List ℕ) (z : Zone) (from to o : ℕ)
           let e = eventAt book p in
           ap (λ (y : Boundary). record { code = e .code; boundary = y; evidence = e .evidence }) (shift d x e a b (omega arith))
 
-      times-found : (p : ℕ) (xs : List ℕ) → EachTime xs → map (keptAs book) (keptTimes from to (midnightBy o d) p xs) ≡ onTimes z from to d (eventAt book p) xs
+      times-found : (p : ℕ) (xs : List ℕ) → EachTime xs
+          → map (keptAs book) (keptTimes from to (midnightBy o d) p xs) ≡ onTimes z from to d (eventAt book p) xs
       unfolding keptTimes onTimes
       times-found p [] t = refl
       times-found p (x ∷ xs) t = go (one-found p x (t .0)) (times-found p xs (t .1))
@@ -80,7 +82,8 @@ module _ (book : List ℕ) (z : Zone) (from to o : ℕ)
           rest : List Occurrence
           rest = onTimes z from to d (eventAt book p) xs
 
-          by : (q : Bool) → map (keptAs book) more ≡ rest → map (keptAs book) (cond q (record { at = m; place = p } ∷ more) more) ≡ cond q (keptAt book m p ∷ rest) rest
+          by : (q : Bool) → map (keptAs book) more ≡ rest
+              → map (keptAs book) (cond q (record { at = m; place = p } ∷ more) more) ≡ cond q (keptAt book m p ∷ rest) rest
           by true e = ap (_∷_ (keptAt book m p)) e
           by false e = e
 
@@ -89,7 +92,8 @@ module _ (book : List ℕ) (z : Zone) (from to o : ℕ)
               ≡ cond (happens from to (occurrence z d (eventAt book p) x)) (occurrence z d (eventAt book p) x ∷ rest) rest
           go e f = by (leb from m && ltb m to) f ∙ ap (λ (y : Occurrence). cond (happens from to y) (y ∷ rest) rest) (sym e)
 
-      date-found : (ps : List ℕ) → EachListed book ps → map (keptAs book) (keptDate book from to d (midnightBy o d) ps) ≡ onDate z from to d (map (eventAt book) ps)
+      date-found : (ps : List ℕ) → EachListed book ps
+          → map (keptAs book) (keptDate book from to d (midnightBy o d) ps) ≡ onDate z from to d (map (eventAt book) ps)
       unfolding keptDate onDate
       date-found [] l = refl
       date-found (p ∷ ps) l = go (leb (dayOf (eventAt book p .first)) d && leb d (dayOf (eventAt book p .last))) (date-found ps (l .1))
@@ -122,7 +126,8 @@ steady-span z from to o e = go (leb from to) refl e
     go true h i = (leb-true from to h, i)
     go false h i = let wrong : _≡_ {A = ℕ} 0 1 = cc in absurd (omega arith)
 
-kept-found : (book : List ℕ) (first : ℕ) (ats os events : List ℕ) → Valid first ats os → AllListed 4 book events → (from to o : ℕ) → steadyIn (zoneOf first ats os) from to ≡ By o
+kept-found : (book : List ℕ) (first : ℕ) (ats os events : List ℕ) → Valid first ats os → AllListed 4 book events → (from to o : ℕ)
+    → steadyIn (zoneOf first ats os) from to ≡ By o
     → map (keptAs book) (keptBy book events from to (By o)) ≡ found (zoneOf first ats os) (map (eventAt book) events) from to
 unfolding found
 kept-found book first ats os events v l from to o e =
@@ -201,14 +206,17 @@ pub record Holds (book a b a′ b′ : List ℕ) (n : ℕ) (os : List Occurrence
   pub same : n ≤ length a → n ≤ length b → listed (keptOf book a′ b′) 0 n ≡ os
   pub there : n ≤ length b → (i : ℕ) → i < n → Listed 4 book (getD b′ i 0)
 
-pub collects-all : (book : List ℕ) (first : ℕ) (ats os events : List ℕ) → Valid first ats os → AllListed 4 book events → (from to : ℕ) {a b a′ b′ : List ℕ} {r : Collected} {n : ℕ}
-    → Collects (steadyIn (zoneOf first ats os) from to) book events from to a b r a′ b′ → r ≡ All n → Holds book a b a′ b′ n (found (zoneOf first ats os) (map (eventAt book) events) from to)
+pub collects-all : (book : List ℕ) (first : ℕ) (ats os events : List ℕ) → Valid first ats os → AllListed 4 book events
+    → (from to : ℕ) {a b a′ b′ : List ℕ} {r : Collected} {n : ℕ}
+    → Collects (steadyIn (zoneOf first ats os) from to) book events from to a b r a′ b′ → r ≡ All n
+    → Holds book a b a′ b′ n (found (zoneOf first ats os) (map (eventAt book) events) from to)
 collects-all book first ats os events v l from to {a} {b} {a′} {b′} {r} {n} c all = go (steadyIn z from to) refl c
   where
     z : Zone
     z = zoneOf first ats os
 
-    go : (s : Steady) → steadyIn z from to ≡ s → Collects s book events from to a b r a′ b′ → Holds book a b a′ b′ n (found z (map (eventAt book) events) from to)
+    go : (s : Steady) → steadyIn z from to ≡ s → Collects s book events from to a b r a′ b′
+        → Holds book a b a′ b′ n (found z (map (eventAt book) events) from to)
     go No e k = let wrong : All n ≡ Unsteady = sym all ∙ k .answer in let no : _≡_ {A = ℕ} 0 1 = cc in absurd (omega arith)
     go (By o) e k =
         let ks = keptBy book events from to (By o) in

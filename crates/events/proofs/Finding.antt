@@ -23,7 +23,8 @@ use Rattle.events.specs.Seeking.{fromHere, better, met, sought}
 
 -- ---- one event
 
-pub occurrence-by : (z : Zone) (d x : ℕ) (e : Event) (u : Uncertainty) (b : Boundary) (k v : ℕ) → u ≡ published (e .uncertainty) → b ≡ boundaryAt z d x u → k ≡ e .code → v ≡ e .evidence
+pub occurrence-by : (z : Zone) (d x : ℕ) (e : Event) (u : Uncertainty) (b : Boundary) (k v : ℕ) → u ≡ published (e .uncertainty)
+    → b ≡ boundaryAt z d x u → k ≡ e .code → v ≡ e .evidence
     → _≡_ {A = Occurrence} (record { code = k; boundary = b; evidence = v }) (occurrence z d e x)
 occurrence-by z d x e u b k v p q i j =
     ap₂ (λ (m n : ℕ). record { code = m; boundary = b; evidence = n }) i j
@@ -36,7 +37,8 @@ unfolding sought
 sought-append s [] ps = refl
 sought-append s (o ∷ os) ps = sought-append (met s o) os ps
 
-pub met-by : (s : Search) (o : Occurrence) (b : Best) → b ≡ cond (fromHere (s .at .0) (s .index) o (s .count) && better (s .best) o) (Some o (s .count)) (s .best)
+pub met-by : (s : Search) (o : Occurrence) (b : Best)
+    → b ≡ cond (fromHere (s .at .0) (s .index) o (s .count) && better (s .best) o) (Some o (s .count)) (s .best)
     → _≡_ {A = Search} (record { at = s .at; index = s .index; count = s .count + 1; best = b }) (met s o)
 met-by s o b e = ap (λ (a : Best). record { at = s .at; index = s .index; count = s .count + 1; best = a }) e
 
@@ -68,7 +70,8 @@ module _ {f : List ℕ → List Occurrence} {whole : List ℕ} {most : ℕ} wher
         few = omega (arith, p .few);
       }
 
-  pub pass-end : {s t : Search} {i : ℕ} → f [] ≡ [] → Passing f whole most s t i → length whole ≤ i → (t ≡ sought s (f whole)) × (t .count ≤ s .count + most * i)
+  pub pass-end : {s t : Search} {i : ℕ} → f [] ≡ [] → Passing f whole most s t i → length whole ≤ i
+      → (t ≡ sought s (f whole)) × (t .count ≤ s .count + most * i)
   unfolding sought
   pass-end {s} {t} {i} none p h = (sym (p .same ∙ ap (λ (l : List ℕ). sought t (f l)) (drop-of-length-le whole h) ∙ ap (sought t) none), p .few)
 
@@ -86,11 +89,13 @@ module _ (z : Zone) (from to d : ℕ) (e : Event) where
   unfolding sought onTimes
   time-in t x xs h = simp h
 
-  time-out : (t : Search) (x : ℕ) (xs : List ℕ) → happens from to (occurrence z d e x) ≡ false → sought t (onTimes z from to d e (x ∷ xs)) ≡ sought t (onTimes z from to d e xs)
+  time-out : (t : Search) (x : ℕ) (xs : List ℕ) → happens from to (occurrence z d e x) ≡ false
+      → sought t (onTimes z from to d e (x ∷ xs)) ≡ sought t (onTimes z from to d e xs)
   unfolding onTimes
   time-out t x xs h = simp h
 
-  module _ {s t : Search} {i : ℕ} (p : Timing s t i) (h : i < length (e .times)) {x : ℕ} {o : Occurrence} {r : Search} (read : x ≡ getD (e .times) i 0) (made : o ≡ occurrence z d e x) where
+  module _ {s t : Search} {i : ℕ} (p : Timing s t i) (h : i < length (e .times)) {x : ℕ} {o : Occurrence} {r : Search}
+      (read : x ≡ getD (e .times) i 0) (made : o ≡ occurrence z d e x) where
     pub time-met : happens from to o ≡ true → r ≡ met t o → Timing s r (i + 1)
     time-met y q =
         let xs = drop (i + 1) (e .times) in
@@ -104,7 +109,8 @@ module _ (z : Zone) (from to d : ℕ) (e : Event) where
         let n = count-by q in
         pass-one p h read (time-out t x xs (ap (happens from to) (sym made) ∙ y) ∙ ap (λ (a : Search). sought a (onTimes z from to d e xs)) (sym q)) (omega arith)
 
-  pub times-end : {s t : Search} {i : ℕ} → Timing s t i → length (e .times) ≤ i → i ≤ 8 → (t ≡ sought s (onTimes z from to d e (e .times))) × (t .count ≤ s .count + 8)
+  pub times-end : {s t : Search} {i : ℕ} → Timing s t i → length (e .times) ≤ i → i ≤ 8
+      → (t ≡ sought s (onTimes z from to d e (e .times))) × (t .count ≤ s .count + 8)
   unfolding onTimes
   times-end p h few = let w = pass-end refl p h in (w .0, omega (arith, w .1))
 
@@ -117,7 +123,8 @@ module _ (z : Zone) (from to d : ℕ) (book places : List ℕ) where
   abbrev hasDate : Event → Bool
   hasDate e = leb (dayOf (e .first)) d && leb d (dayOf (e .last))
 
-  event-in : (t : Search) (e : Event) (es : List Event) → hasDate e ≡ true → sought t (onDate z from to d (e ∷ es)) ≡ sought (sought t (onTimes z from to d e (e .times))) (onDate z from to d es)
+  event-in : (t : Search) (e : Event) (es : List Event) → hasDate e ≡ true
+      → sought t (onDate z from to d (e ∷ es)) ≡ sought (sought t (onTimes z from to d e (e .times))) (onDate z from to d es)
   unfolding onDate
   event-in t e es h =
       let own = onTimes z from to d e (e .times) in
@@ -129,13 +136,15 @@ module _ (z : Zone) (from to d : ℕ) (book places : List ℕ) where
   event-out t e es h = simp h
 
   -- the first and last date as they are read
-  dated : (p : ℕ) {a b : ℕ} {y : Bool} → a ≡ dayOf (eventAt book p .first) → b ≡ dayOf (eventAt book p .last) → leb a d && leb d b ≡ y → hasDate (eventAt book p) ≡ y
+  dated : (p : ℕ) {a b : ℕ} {y : Bool} → a ≡ dayOf (eventAt book p .first) → b ≡ dayOf (eventAt book p .last) → leb a d && leb d b ≡ y
+      → hasDate (eventAt book p) ≡ y
   dated p i j h = ap₂ (λ (a b : ℕ). leb a d && leb d b) (sym i) (sym j) ∙ h
 
   module _ {s t : Search} {i : ℕ} (on : Dating s t i) (h : i < length places) {p a b : ℕ} {r : Search} (read : p ≡ getD places i 0)
       (first-read : a ≡ dayOf (eventAt book p .first)) (last-read : b ≡ dayOf (eventAt book p .last))
     where
-      pub event-met : {m : Search} → leb a d && leb d b ≡ true → m ≡ sought t (onTimes z from to d (eventAt book p) (eventAt book p .times)) → m .count ≤ t .count + 8 → r ≡ m
+      pub event-met : {m : Search} → leb a d && leb d b ≡ true → m ≡ sought t (onTimes z from to d (eventAt book p) (eventAt book p .times))
+          → m .count ≤ t .count + 8 → r ≡ m
           → Dating s r (i + 1)
       event-met y q n same =
           let k = count-by same in
@@ -148,7 +157,8 @@ module _ (z : Zone) (from to d : ℕ) (book places : List ℕ) where
           let n = count-by q in
           pass-one on h read (event-out t (eventAt book p) rest (dated p first-read last-read y) ∙ ap (λ (w : Search). sought w (onDate z from to d rest)) (sym q)) (omega arith)
 
-  pub events-end : {s t : Search} {i : ℕ} → Dating s t i → length places ≤ i → i ≤ 32 → (t ≡ sought s (onDate z from to d (map (eventAt book) places))) × (t .count ≤ s .count + 256)
+  pub events-end : {s t : Search} {i : ℕ} → Dating s t i → length places ≤ i → i ≤ 32
+      → (t ≡ sought s (onDate z from to d (map (eventAt book) places))) × (t .count ≤ s .count + 256)
   unfolding onDate
   events-end on h few = let w = pass-end refl on h in (w .0, omega (arith, w .1))
 
@@ -168,7 +178,8 @@ module _ (z : Zone) (from to : ℕ) (es : List Event) (a b : ℕ) where
   pub dates-start : {s : Search} → s .count ≤ 256 → Spanning s s a
   dates-start n = record { low = omega arith; high = omega arith; same = refl; few = omega arith }
 
-  pub date-one : {s t r : Search} {date : ℕ} → Spanning s t date → date < b → r ≡ sought t (onDate z from to (date + 1) es) → r .count ≤ t .count + 256 → Spanning s r (date + 1)
+  pub date-one : {s t r : Search} {date : ℕ} → Spanning s t date → date < b → r ≡ sought t (onDate z from to (date + 1) es)
+      → r .count ≤ t .count + 256 → Spanning s r (date + 1)
   date-one {s} {t} {r} {date} p h q n =
       let i : suc date ≡ date + 1 = omega arith in
       let k : b - date ≡ suc (b - (date + 1)) = omega arith in
@@ -187,7 +198,8 @@ module _ (z : Zone) (from to : ℕ) (es : List Event) (a b : ℕ) where
   pub dates-few : {s t : Search} {date : ℕ} → Spanning s t date → t .count ≤ 256 * (b + 1)
   dates-few p = omega (arith, p .low, p .high, p .few)
 
-  pub dates-end : (none : Search) {s t : Search} {date : ℕ} → s ≡ sought none (onDate z from to a es) → Spanning s t date → b ≤ date → a ≡ dateAt z from → b ≡ dateAt z to
+  pub dates-end : (none : Search) {s t : Search} {date : ℕ} → s ≡ sought none (onDate z from to a es) → Spanning s t date → b ≤ date
+      → a ≡ dateAt z from → b ≡ dateAt z to
       → t ≡ sought none (found z es from to)
   unfolding sought onDates found
   dates-end none {s} {t} {date} q p h i j =

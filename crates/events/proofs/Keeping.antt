@@ -30,7 +30,8 @@ also-kept f ks ls a n {a′} {a″} {m} e p q =
 pub keeps-none : {a b : List ℕ} {n : ℕ} → Keeps a b n [] a b n
 keeps-none = record { count = omega arith; instants-kept = refl; places-kept = refl }
 
-pub keeps-also : {a b a′ b′ a″ b″ : List ℕ} {n m r : ℕ} {ks ls : List Kept} → Keeps a b n ks a′ b′ m → Keeps a′ b′ m ls a″ b″ r → Keeps a b n (ks ++ ls) a″ b″ r
+pub keeps-also : {a b a′ b′ a″ b″ : List ℕ} {n m r : ℕ} {ks ls : List Kept} → Keeps a b n ks a′ b′ m → Keeps a′ b′ m ls a″ b″ r
+    → Keeps a b n (ks ++ ls) a″ b″ r
 keeps-also {a} {b} {n = n} {ks = ks} {ls = ls} p q =
     record {
       count = omega (arith, p .count, q .count, length-append ks ls);
@@ -58,7 +59,8 @@ module _ {f : List ℕ → List Kept} {whole : List ℕ} {most : ℕ} where
   pub keep-start : (a b : List ℕ) (n : ℕ) → Keeping f whole most a b n a b n 0
   keep-start a b n = record { inside = omega arith; few = omega arith; long = (refl, refl); ahead = λ c d r k. k }
 
-  pub keep-one : {a b a′ b′ a″ b″ : List ℕ} {n m r i x : ℕ} {new : List Kept} → Keeping f whole most a b n a′ b′ m i → i < length whole → x ≡ getD whole i 0
+  pub keep-one : {a b a′ b′ a″ b″ : List ℕ} {n m r i x : ℕ} {new : List Kept} → Keeping f whole most a b n a′ b′ m i → i < length whole
+      → x ≡ getD whole i 0
       → f (x ∷ drop (i + 1) whole) ≡ new ++ f (drop (i + 1) whole) → Keeps a′ b′ m new a″ b″ r → r ≤ m + most → Keeping f whole most a b n a″ b″ r (i + 1)
   keep-one {a} {b} {n = n} {i = i} {x = x} {new = new} p h e split k less =
       let j : suc i ≡ i + 1 = omega arith in
@@ -80,7 +82,8 @@ module _ (from to midnight p : ℕ) where
   abbrev happens : ℕ → Bool
   happens x = leb from (midnight + x) && ltb (midnight + x) to
 
-  pub time-in : (x : ℕ) (xs : List ℕ) → happens x ≡ true → keptTimes from to midnight p (x ∷ xs) ≡ (record { at = midnight + x; place = p } ∷ []) ++ keptTimes from to midnight p xs
+  pub time-in : (x : ℕ) (xs : List ℕ) → happens x ≡ true
+      → keptTimes from to midnight p (x ∷ xs) ≡ (record { at = midnight + x; place = p } ∷ []) ++ keptTimes from to midnight p xs
   unfolding keptTimes
   time-in x xs h = simp h
 
@@ -103,7 +106,8 @@ module _ (book : List ℕ) (from to d midnight : ℕ) where
   dated p i j h = ap₂ (λ (a b : ℕ). leb a d && leb d b) (sym i) (sym j) ∙ h
 
   module _ (p : ℕ) (ps : List ℕ) {a b : ℕ} (first-read : a ≡ dayOf (eventAt book p .first)) (last-read : b ≡ dayOf (eventAt book p .last)) where
-    pub event-in : leb a d && leb d b ≡ true → keptDate book from to d midnight (p ∷ ps) ≡ keptTimes from to midnight p (eventAt book p .times) ++ keptDate book from to d midnight ps
+    pub event-in : leb a d && leb d b ≡ true
+        → keptDate book from to d midnight (p ∷ ps) ≡ keptTimes from to midnight p (eventAt book p .times) ++ keptDate book from to d midnight ps
     unfolding keptDate
     event-in y = let h = dated p first-read last-read y in simp h
 
@@ -130,7 +134,8 @@ module _ (book events : List ℕ) (o from to a b : ℕ) where
     pub high : date ≤ suc b
     pub few : n ≤ 256 * (date - a)
     pub long : (length x′ ≡ length x) × (length y′ ≡ length y)
-    pub ahead : (c d : List ℕ) (r : ℕ) → Keeps x′ y′ n (keptDates book events o from to date (suc b - date)) c d r → Keeps x y 0 (keptDates book events o from to a (suc b - a)) c d r
+    pub ahead : (c d : List ℕ) (r : ℕ) → Keeps x′ y′ n (keptDates book events o from to date (suc b - date)) c d r
+        → Keeps x y 0 (keptDates book events o from to a (suc b - a)) c d r
 
   pub dates-start : (x y : List ℕ) → a ≤ b → Dating x y x y 0 a
   dates-start x y h = record { low = omega arith; high = omega arith; few = omega arith; long = (refl, refl); ahead = λ c d r k. k }

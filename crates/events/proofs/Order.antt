@@ -105,7 +105,8 @@ unfolding insert
 insert-stable t o [] = refl
 insert-stable t o (p ∷ ps) = go (insert-stable t o ps) (leb (instant o) (instant p)) refl
   where
-    go : at-instant t (insert o ps) ≡ at-instant t (o ∷ ps) → (b : Bool) → leb (instant o) (instant p) ≡ b → at-instant t (cond b (o ∷ p ∷ ps) (p ∷ insert o ps)) ≡ at-instant t (o ∷ p ∷ ps)
+    go : at-instant t (insert o ps) ≡ at-instant t (o ∷ ps) → (b : Bool) → leb (instant o) (instant p) ≡ b
+        → at-instant t (cond b (o ∷ p ∷ ps) (p ∷ insert o ps)) ≡ at-instant t (o ∷ p ∷ ps)
     go more true h = refl
     go more false h = ap (λ (r : List Occurrence). cond (eqb (instant p) t) (p ∷ r) r) more ∙ at-swap t o p ps (leb-false (instant o) (instant p) h)
 
@@ -121,7 +122,8 @@ none-earlier t [] s u l h = refl
 none-earlier t (o ∷ os) s u l h = at-out t o os (λ e. omega arith) ∙ none-earlier t os (s .1) (instant o) (s .0) (omega arith)
 
 -- the first is of the same instant
-not-later : (p q : Occurrence) (ps qs : List Occurrence) → Sorted (q ∷ qs) → at-instant (instant p) (p ∷ ps) ≡ at-instant (instant p) (q ∷ qs) → instant q ≤ instant p
+not-later : (p q : Occurrence) (ps qs : List Occurrence) → Sorted (q ∷ qs) → at-instant (instant p) (p ∷ ps) ≡ at-instant (instant p) (q ∷ qs)
+    → instant q ≤ instant p
 not-later p q ps qs s e = go (decLe (instant q) (instant p))
   where
     go : Dec (instant q ≤ instant p) → instant q ≤ instant p
@@ -130,7 +132,8 @@ not-later p q ps qs s e = go (decLe (instant q) (instant p))
         absurd (cons≢nil (sym (at-in (instant p) p ps refl) ∙ e ∙ none-earlier (instant p) (q ∷ qs) s (instant q) (omega arith) (lt-of-not-le h)))
 
 -- what follows it is the same at each instant
-at-rest : (p : Occurrence) (ps qs : List Occurrence) → ((t : ℕ) → at-instant t (p ∷ ps) ≡ at-instant t (p ∷ qs)) → (t : ℕ) → at-instant t ps ≡ at-instant t qs
+at-rest : (p : Occurrence) (ps qs : List Occurrence) → ((t : ℕ) → at-instant t (p ∷ ps) ≡ at-instant t (p ∷ qs)) → (t : ℕ)
+    → at-instant t ps ≡ at-instant t qs
 at-rest p ps qs e t = go (ℕ-discrete (instant p) t)
   where
     go : Dec (instant p ≡ t) → at-instant t ps ≡ at-instant t qs

@@ -107,7 +107,8 @@ fn on_times(
 ) -> Search
     requires { ⌜ Valid first (now ats) (now offsets) × Listed 4 (now book) event × (s .count ≤ 2 ^ 62) ⌝ }
     ensures { λ r.
-        ⌜ (r ≡ sought s (onTimes (zoneOf first (now (ats .entry)) (now (offsets .entry))) (from .0) (to .0) (d .0) (eventAt (now (book .entry)) event) (eventAt (now (book .entry)) event .times)))
+        ⌜ (r ≡ sought s (onTimes (zoneOf first (now (ats .entry)) (now (offsets .entry))) (from .0) (to .0) (d .0)
+        (eventAt (now (book .entry)) event) (eventAt (now (book .entry)) event .times)))
         × (r .count ≤ s .count + 8) ⌝ }
 {
     let times = event_times(book, event);
@@ -145,7 +146,8 @@ fn on_date(
 ) -> Search
     requires { ⌜ Valid first (now ats) (now offsets) × AllListed 4 (now book) (now events) × (length (now events) ≤ 32) × (s .count ≤ 2 ^ 61) ⌝ }
     ensures { λ r.
-        ⌜ (r ≡ sought s (onDate (zoneOf first (now (ats .entry)) (now (offsets .entry))) (from .0) (to .0) (d .0) (map (eventAt (now (book .entry))) (now (events .entry)))))
+        ⌜ (r ≡ sought s (onDate (zoneOf first (now (ats .entry)) (now (offsets .entry))) (from .0) (to .0) (d .0)
+        (map (eventAt (now (book .entry))) (now (events .entry)))))
         × (r .count ≤ s .count + 256) ⌝ }
 {
     let mut so_far = s;
@@ -175,7 +177,8 @@ pub fn search_events(
 ) -> Search
     requires { ⌜ Valid first (now ats) (now offsets) × AllListed 4 (now book) (now events) × (length (now events) ≤ 32) ⌝ }
     ensures { λ r.
-        ⌜ (r ≡ sought (begin (at .0) index) (found (zoneOf first (now (ats .entry)) (now (offsets .entry))) (map (eventAt (now (book .entry))) (now (events .entry))) (from .0) (to .0)))
+        ⌜ (r ≡ sought (begin (at .0) index) (found (zoneOf first (now (ats .entry)) (now (offsets .entry)))
+        (map (eventAt (now (book .entry))) (now (events .entry))) (from .0) (to .0)))
         × (r .count ≤ 2 ^ 25) ⌝ }
 {
     let begins = day_at(first, ats, offsets, from);

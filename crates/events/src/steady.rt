@@ -53,7 +53,9 @@ fn on_steady_times(
 ) -> usize
     requires { ⌜ Listed 4 (now book) place × (midnight .0 ≤ lastInstant) × (n ≤ 2 ^ 62) ⌝ }
     ensures { λ r.
-        ⌜ Keeps (now (when .entry)) (now (which .entry)) n (keptTimes (from .0) (to .0) (midnight .0) place (eventAt (now (book .entry)) place .times)) (now (when .exit)) (now (which .exit)) r
+        ⌜ Keeps (now (when .entry)) (now (which .entry)) n
+        (keptTimes (from .0) (to .0) (midnight .0) place (eventAt (now (book .entry)) place .times))
+        (now (when .exit)) (now (which .exit)) r
         × (r ≤ n + 8) ⌝ }
 {
     let event = place as usize;
@@ -84,7 +86,9 @@ fn on_steady_date(
 ) -> usize
     requires { ⌜ AllListed 4 (now book) (now events) × (length (now events) ≤ 32) × (midnight .0 ≤ lastInstant) × (n ≤ 2 ^ 61) ⌝ }
     ensures { λ r.
-        ⌜ Keeps (now (when .entry)) (now (which .entry)) n (keptDate (now (book .entry)) (from .0) (to .0) (d .0) (midnight .0) (now (events .entry))) (now (when .exit)) (now (which .exit)) r
+        ⌜ Keeps (now (when .entry)) (now (which .entry)) n
+        (keptDate (now (book .entry)) (from .0) (to .0) (d .0) (midnight .0) (now (events .entry)))
+        (now (when .exit)) (now (which .exit)) r
         × (r ≤ n + 256) ⌝ }
 {
     let mut count = n;
@@ -112,7 +116,10 @@ fn on_steady_dates(
 ) -> usize
     requires { ⌜ AllListed 4 (now book) (now events) × (length (now events) ≤ 32) × OnWall offset (from .0) × OnWall offset (to .0) × (from .0 ≤ to .0) ⌝ }
     ensures { λ r.
-        ⌜ Keeps (now (when .entry)) (now (which .entry)) 0 (keptDates (now (book .entry)) (now (events .entry)) offset (from .0) (to .0) (dayBy offset (from .0)) (suc (dayBy offset (to .0) - dayBy offset (from .0)))) (now (when .exit)) (now (which .exit)) r ⌝ }
+        ⌜ Keeps (now (when .entry)) (now (which .entry)) 0
+        (keptDates (now (book .entry)) (now (events .entry)) offset (from .0) (to .0) (dayBy offset (from .0))
+        (suc (dayBy offset (to .0) - dayBy offset (from .0))))
+        (now (when .exit)) (now (which .exit)) r ⌝ }
 {
     let begins = steady_day(offset, from);
     let ends = steady_day(offset, to);

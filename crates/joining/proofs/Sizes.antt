@@ -139,7 +139,8 @@ unfolding more
 size-one {total} {size} {size′} {last} {last′} {q} {qs} w h e i =
     rw i (record { same = let s = w .same in omega arith; few = go (joinsNext last q) (w .few) e })
   where
-    go : (b : Bool) → size + spanMost * suc (length qs) ≤ spanMost * spansMost → size′ ≡ size + cond b 0 105 + 35 * many q → size′ + spanMost * length qs ≤ spanMost * spansMost
+    go : (b : Bool) → size + spanMost * suc (length qs) ≤ spanMost * spansMost → size′ ≡ size + cond b 0 105 + 35 * many q
+        → size′ + spanMost * length qs ≤ spanMost * spansMost
     go true f g = omega arith
     go false f g = omega arith
 

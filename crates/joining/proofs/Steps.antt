@@ -92,11 +92,14 @@ module _ (s : List ℕ) (first : ℕ) (ats offsets rules events : List ℕ) (hi 
     pub last-read : (q : Piece) {p e : ℕ} → p ≡ pointOf s q (q .point) .phase → e ≡ ruleOf s q .evidence → Shows (q .to) p e ≡ lastAt (spanOf q)
     last-read q a b = ap₂ (Shows (q .to)) a b
 
-    pub joins-read : (q : Piece) {p e : ℕ} → p ≡ pointOf s q (q .point) .phase → e ≡ ruleOf s q .evidence → (l : Last) {b : Bool} → b ≡ joinsLast l (q .from .0) p e → b ≡ joinsNext l (spanOf q)
+    pub joins-read : (q : Piece) {p e : ℕ} → p ≡ pointOf s q (q .point) .phase → e ≡ ruleOf s q .evidence → (l : Last) {b : Bool}
+        → b ≡ joinsLast l (q .from .0) p e → b ≡ joinsNext l (spanOf q)
     joins-read q a c l j = j ∙ ap₂ (joinsLast l (q .from .0)) a c
 
-    module _ {w : Walk} {q : Piece} {a : List ℕ} (c : Coming w q a) {p e : ℕ} (phase-is : p ≡ pointOf s q (q .point) .phase) (evidence-is : e ≡ ruleOf s q .evidence) where
-      pub sized : {total size : ℕ} {last : Last} → Sizing total last size (left w) → {b : Bool} → b ≡ joinsLast last (q .from .0) p e → {n m k : ℕ} → n ≡ cond b 0 105
+    module _ {w : Walk} {q : Piece} {a : List ℕ} (c : Coming w q a) {p e : ℕ} (phase-is : p ≡ pointOf s q (q .point) .phase)
+        (evidence-is : e ≡ ruleOf s q .evidence) where
+      pub sized : {total size : ℕ} {last : Last} → Sizing total last size (left w) → {b : Bool} → b ≡ joinsLast last (q .from .0) p e
+          → {n m k : ℕ} → n ≡ cond b 0 105
           → m ≡ length (found z es (q .start .0) (q .end .0)) → k ≡ size + n + 35 * m → Sizing total (Shows (q .to) p e) k (left (behind q))
       sized {total} {size} {last} i {b} j {n} {m} {k} x y t =
           size-one (subst (λ (l : List (Span Shown)). Sizing total last size l) (come-left c) i) (many-few q (c .fits))

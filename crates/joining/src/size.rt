@@ -43,7 +43,9 @@ pub fn walk_size(
     hi: Instant,
 ) -> usize
     requires { ⌜ Ready (now book) first (now ats) (now offsets) (now rules) (now events) ⌝ }
-    ensures { λ r. ⌜ (r ≡ length (encodeAll (walkForms (now (book .entry)) first (now (ats .entry)) (now (offsets .entry)) (now (rules .entry)) (now (events .entry)) (lo .0) (hi .0)))) × (r ≤ 4294967295) ⌝ }
+    ensures { λ r. ⌜ (r ≡ length (encodeAll
+        (walkForms (now (book .entry)) first (now (ats .entry)) (now (offsets .entry)) (now (rules .entry)) (now (events .entry)) (lo .0) (hi .0))))
+        × (r ≤ 4294967295) ⌝ }
 {
     let mut kept = [0u32; MOST_KEPT];
     let mut edges = [0u64; MOST_BOUNDARIES];

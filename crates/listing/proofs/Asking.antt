@@ -75,7 +75,8 @@ pub record Answered (s : List ℕ) (m n : ℤ) (left : List ℕ) (r : Reply) : T
   pub good : Bytes s → goodRow (take (r .length) left) ≡ true
   pub text : windowText s m n ≡ rowText (segments (take (r .length) left))
 
-module _ (s : List ℕ) (m n : ℤ) {room left : List ℕ} {r : Reply} (w : Lent (windowNumber s m n) (windowAnswer s m n) room left r) (l : length room ≡ 65536) where
+module _ (s : List ℕ) (m n : ℤ) {room left : List ℕ} {r : Reply} (w : Lent (windowNumber s m n) (windowAnswer s m n) room left r)
+    (l : length room ≡ 65536) where
   says : roomNumber (windowNumber s m n) (windowAnswer s m n) ≡ r .number
   says = sym (w .says ∙ verdict-room (windowNumber s m n) (windowAnswer s m n) room l)
 

@@ -39,14 +39,16 @@ pub list-one : {old whole s new : List ℕ} {at from next : ℕ} → Going old a
 unfolding allLines
 list-one w t e = rw (row-split t e) at w
 
-pub list-over : {old whole new : List ℕ} {at next : ℕ} (s : List ℕ) (from : ℕ) → Going old at whole (allLines (segmentsAt s from)) new next → from ≡ length s
+pub list-over : {old whole new : List ℕ} {at next : ℕ} (s : List ℕ) (from : ℕ) → Going old at whole (allLines (segmentsAt s from)) new next
+    → from ≡ length s
     → Puts old at whole new next
 unfolding allLines
 list-over {old} {whole} {new} {at} {next} s from w e = let v : Going old at whole [] new next = rw (segments-end s from e) at w in ends v
 
 -- ---- events are listed
 
-events-cons : (s : List ℕ) (from n : ℕ) → 0 < n → eventLines (eventsFrom s from n) ≡ eventLine (eventOf s from) ++ eventLines (eventsFrom s (from + 35) (n - 1))
+events-cons : (s : List ℕ) (from n : ℕ) → 0 < n
+    → eventLines (eventsFrom s from n) ≡ eventLine (eventOf s from) ++ eventLines (eventsFrom s (from + 35) (n - 1))
 unfolding eventsFrom eventLines
 events-cons s from zero h = absurd (omega arith)
 events-cons s from (suc n) h = let z : suc n - 1 ≡ n = omega arith in rw z
@@ -61,7 +63,8 @@ unfolding eventsFrom eventLines
 event-none {old} {whole} {new} {at} {next} s from n h g = let v : Going old at whole [] new next = rw h at g in ends v
 
 -- the event that was read is the one that stands there
-pub same-event : (s : List ℕ) (from a c : ℕ) → a ≡ eventOf s from .at → c ≡ eventOf s from .code → eventLine (record { at = a; code = c }) ≡ eventLine (eventOf s from)
+pub same-event : (s : List ℕ) (from a c : ℕ) → a ≡ eventOf s from .at → c ≡ eventOf s from .code
+    → eventLine (record { at = a; code = c }) ≡ eventLine (eventOf s from)
 same-event s from a c e f = rw (e, f)
 
 pub event-put : {old new : List ℕ} {at next : ℕ} (s : List ℕ) (from a c : ℕ) → a ≡ eventOf s from .at → c ≡ eventOf s from .code

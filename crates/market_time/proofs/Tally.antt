@@ -113,7 +113,8 @@ module _ (s : List ℕ) (c : Coverage) where
         let e : from + (to - from) ≡ to = omega arith in
         subst (λ (x : ℕ). rowTotals segments from x tl ≡ countedTotals from (to - from)) e (row-counted from (to - from) h (omega arith))
 
-    rows-counted : (n from : ℕ) → instantOf start ≤ from → map (dayForm segments tl) (rowsFrom n (instantOf end) from) ≡ map countedRow (rowsFrom n (instantOf end) from)
+    rows-counted : (n from : ℕ) → instantOf start ≤ from
+        → map (dayForm segments tl) (rowsFrom n (instantOf end) from) ≡ map countedRow (rowsFrom n (instantOf end) from)
     unfolding rowsFrom
     rows-counted zero from h = refl
     rows-counted (suc n) from h = go (ltb from (instantOf end)) refl (rows-counted n (rowEnd (instantOf end) from))

@@ -111,7 +111,8 @@ module _ {all : List (Span Mark)} (fits : (k : Mark → Bool) (x y : ℕ) → to
       }
 
   -- nothing is left
-  pub filled-all : {left : List (Span Mark)} {row : List ℕ} → Filled all left a b row → ((k : Mark → Bool) → total marks k a b left ≡ 0) → row ≡ rowTotals marks a b all
+  pub filled-all : {left : List (Span Mark)} {row : List ℕ} → Filled all left a b row → ((k : Mark → Bool) → total marks k a b left ≡ 0)
+      → row ≡ rowTotals marks a b all
   filled-all {left} {row} w e = ext-getD 0 row (rowTotals marks a b all) (w .long) (λ i h. go i (ℕ-discrete i 9) (omega (arith, w .long)))
     where
       go : (i : ℕ) → Dec (i ≡ 9) → i < 10 → getD row i 0 ≡ getD (rowTotals marks a b all) i 0

@@ -46,7 +46,8 @@ pub record Cutting (start end count at : ℕ) : Type 0 where
 pub cutting-none : (start end : ℕ) → end ≤ start + mostNs → Cutting start end 0 start
 cutting-none start end h = record { fuel = (end - start) / dayNs + 1; same = sym (zero-add (length (rowsOf start end))); enough = omega arith; few = omega arith }
 
-pub cutting-next : {start end count at : ℕ} → Cutting start end count at → at < end → {next : ℕ} → next ≡ rowEnd end at → Cutting start end (count + 1) next
+pub cutting-next : {start end count at : ℕ} → Cutting start end count at → at < end → {next : ℕ} → next ≡ rowEnd end at
+    → Cutting start end (count + 1) next
 cutting-next {start} {end} {count} {at} c h {next} e =
     let r = rows-next (c .fuel) end at h (c .enough) in
     rw e (record { fuel = r .0; same = omega (arith, c .same, ap length (r .1)); enough = r .2; few = omega (arith, c .few, r .3) })
@@ -84,9 +85,11 @@ forms-long all start end =
 
 -- ---- the page that is open
 
-module _ {all left : List (Span Mark)} {start end : ℕ} {room : List ℕ} {a b at : ℕ} {row now : List ℕ} (w : Paged all left start end room a b at row now) where
+module _ {all left : List (Span Mark)} {start end : ℕ} {room : List ℕ} {a b at : ℕ} {row now : List ℕ}
+    (w : Paged all left start end room a b at row now) where
   -- the same page, of other stretches that are left
-  page-left : {left′ : List (Span Mark)} {row′ : List ℕ} → Ordered end left′ → ((k : Mark → Bool) (x y : ℕ) → b ≤ x → total marks k x y left′ ≡ total marks k x y left)
+  page-left : {left′ : List (Span Mark)} {row′ : List ℕ} → Ordered end left′
+      → ((k : Mark → Bool) (x y : ℕ) → b ≤ x → total marks k x y left′ ≡ total marks k x y left)
       → Filled all left′ a b row′ → Paged all left′ start end room a b at row′ now
   page-left o l f =
       record {
@@ -125,7 +128,8 @@ module _ {all left : List (Span Mark)} {start end : ℕ} {room : List ℕ} {a b 
   page-inside : Inside at 100 now
   page-inside = omega (arith, page-behind)
 
-  page-put : {now1 : List ℕ} {at1 : ℕ} → Put now at (encode (dayOf all a b)) 100 now1 at1 → Put room 0 (encodeAll (w .done ++ (dayOf all a b ∷ []))) at1 now1 at1
+  page-put : {now1 : List ℕ} {at1 : ℕ} → Put now at (encode (dayOf all a b)) 100 now1 at1
+      → Put room 0 (encodeAll (w .done ++ (dayOf all a b ∷ []))) at1 now1 at1
   page-put {now1} {at1} y =
       let e = encode-append (w .done) (dayOf all a b ∷ []) in
       let o = one-form (dayOf all a b) in
@@ -182,7 +186,8 @@ module _ {all left : List (Span Mark)} {from to : ℕ} {m : Mark} {start end : �
 
 -- rows are closed while one stretch lasts
 pub record Rolling (now : List ℕ) (a b at : ℕ) (row : List ℕ) (end from to slot : ℕ) (now′ : List ℕ) (a′ b′ at′ : ℕ) (row′ : List ℕ) : Type 0 where
-  pub on : (all left : List (Span Mark)) (start : ℕ) (room : List ℕ) (m : Mark) → Slot m slot → Paged all (stretchOf from to m ∷ left) start end room a b at row now
+  pub on : (all left : List (Span Mark)) (start : ℕ) (room : List ℕ) (m : Mark) → Slot m slot
+      → Paged all (stretchOf from to m ∷ left) start end room a b at row now
       → Paged all (stretchOf from to m ∷ left) start end room a′ b′ at′ row′ now′
   pub kept : length now′ ≡ length now
 
@@ -192,7 +197,8 @@ rolling-none now a b at row end from to slot = record { on = λ all left start r
 module _ {now : List ℕ} {a b at : ℕ} {row : List ℕ} {end from to slot : ℕ} {now1 : List ℕ} {a1 b1 at1 : ℕ} {row1 : List ℕ}
     (r : Rolling now a b at row end from to slot now1 a1 b1 at1 row1) {n : ℕ} (e : n ≡ min b1 to - max a1 from) {row2 : List ℕ} (f : row2 ≡ shifted row1 slot n) where
   -- another row
-  pub rolling-next : b1 < to → {now2 row3 : List ℕ} {at2 b2 : ℕ} → Put now1 at1 (encode (day (totalsOf a1 b1 row2))) 100 now2 at2 → b2 ≡ rowEnd end b1 → row3 ≡ fresh (b2 - b1)
+  pub rolling-next : b1 < to → {now2 row3 : List ℕ} {at2 b2 : ℕ} → Put now1 at1 (encode (day (totalsOf a1 b1 row2))) 100 now2 at2
+      → b2 ≡ rowEnd end b1 → row3 ≡ fresh (b2 - b1)
       → Rolling now a b at row end from to slot now2 b1 b2 at2 row3
   rolling-next h {now2} {row3} y i g =
       record {
@@ -201,16 +207,19 @@ module _ {now : List ℕ} {a b at : ℕ} {row : List ℕ} {end from to slot : �
       }
 
   -- the last one
-  rolling-end : to ≤ b1 → (all left : List (Span Mark)) (start : ℕ) (room : List ℕ) (m : Mark) → Slot m slot → Paged all (stretchOf from to m ∷ left) start end room a b at row now
+  rolling-end : to ≤ b1 → (all left : List (Span Mark)) (start : ℕ) (room : List ℕ) (m : Mark) → Slot m slot
+      → Paged all (stretchOf from to m ∷ left) start end room a b at row now
       → Paged all left start end room a1 b1 at1 row2 now1
   rolling-end h all left start room m is w = let v = r .on all left start room m is w in page-passed v (shift-one (v .small) (v .filled) is e f) h
 
 -- the page of a stretch that comes
 module _ {now : List ℕ} {p : Page} {start end from to slot : ℕ} {row whole : List ℕ} (c : Coming now p start end from to slot row whole) where
-  pub coming-whole : {n : ℕ} → n ≡ min end to - max start from → end < 18446744073709551616 → (slot < 9) × (n ≤ getD whole 9 0) × (getD whole slot 0 + n < 18446744073709551616)
+  pub coming-whole : {n : ℕ} → n ≡ min end to - max start from → end < 18446744073709551616
+      → (slot < 9) × (n ≤ getD whole 9 0) × (getD whole slot 0 + n < 18446744073709551616)
   coming-whole e h = shift-room (c .stands .page .small) (c .stands .closing) (c .is) e h
 
-  module _ {now1 : List ℕ} {a1 b1 at1 : ℕ} {row1 : List ℕ} (r : Rolling now (p .start .0) (p .end .0) (p .at) row end from to slot now1 a1 b1 at1 row1) where
+  module _ {now1 : List ℕ} {a1 b1 at1 : ℕ} {row1 : List ℕ}
+      (r : Rolling now (p .start .0) (p .end .0) (p .at) row end from to slot now1 a1 b1 at1 row1) where
     abbrev paged : Paged (c .all) (stretchOf from to (c .mark) ∷ c .left) start end (c .room) a1 b1 at1 row1 now1
     paged = r .on (c .all) (c .left) start (c .room) (c .mark) (c .is) (c .stands .page)
 
@@ -227,7 +236,8 @@ module _ {now : List ℕ} {p : Page} {start end from to slot : ℕ} {row whole :
 
 -- it is counted
 pub counted : {now : List ℕ} {p : Page} {start end from to slot : ℕ} {row whole now1 : List ℕ} {p1 : Page} {row1 whole1 : List ℕ}
-    → Rolling now (p .start .0) (p .end .0) (p .at) row end from to slot now1 (p1 .start .0) (p1 .end .0) (p1 .at) row1 → {n : ℕ} → n ≡ min (p1 .end .0) to - max (p1 .start .0) from
+    → Rolling now (p .start .0) (p .end .0) (p .at) row end from to slot now1 (p1 .start .0) (p1 .end .0) (p1 .at) row1 → {n : ℕ}
+    → n ≡ min (p1 .end .0) to - max (p1 .start .0) from
     → {row2 : List ℕ} → row2 ≡ shifted row1 slot n → to ≤ p1 .end .0 → {l : ℕ} → l ≡ min end to - max start from → whole1 ≡ shifted whole slot l
     → Counted now p start end from to slot row whole now1 p1 row2 whole1
 counted {start = start} r e f h i g =
@@ -243,7 +253,8 @@ counted {start = start} r e f h i g =
 none-at : (k : Mark → Bool) (x y end : ℕ) → total marks k x y (stretchOf end end unknown ∷ []) ≡ total marks k x y []
 none-at k x y end = one-none k x y (stretchOf end end unknown) [] (omega arith)
 
-module _ {all : List (Span Mark)} {start end : ℕ} {room now : List ℕ} {p : Page} {row whole : List ℕ} (w : Standing all [] start end room now p row whole) where
+module _ {all : List (Span Mark)} {start end : ℕ} {room now : List ℕ} {p : Page} {row whole : List ℕ}
+    (w : Standing all [] start end room now p row whole) where
   filled-more : {a b : ℕ} {r : List ℕ} → Filled all [] a b r → Filled all (stretchOf end end unknown ∷ []) a b r
   filled-more {a} {b} f =
       record {
@@ -285,7 +296,8 @@ module _ {all : List (Span Mark)} {start end : ℕ} {room now : List ℕ} {p : P
 
 -- ---- the start
 
-module _ (all : List (Span Mark)) {start end : ℕ} {room : List ℕ} (h : start < end) (ordered : Ordered end all) (fits : 100 * (length (rowsOf start end) + 1) ≤ length room) where
+module _ (all : List (Span Mark)) {start end : ℕ} {room : List ℕ} (h : start < end) (ordered : Ordered end all)
+    (fits : 100 * (length (rowsOf start end) + 1) ≤ length room) where
   pub first-standing : {p : Page} {row whole : List ℕ} → First start end p row whole → Standing all all start end room room p row whole
   unfolding encodeAll
   first-standing {p} {row} {whole} f =
@@ -316,10 +328,12 @@ module _ (all : List (Span Mark)) {start end : ℕ} {room : List ℕ} (h : start
 pub unknown-slot : Slot unknown 8
 unknown-slot = record { is = refl; low = tt }
 
-pub ending-stretch : {now : List ℕ} {p : Page} {start end : ℕ} {row whole : List ℕ} → Ending now p start end row whole → Coming now p start end end end 8 row whole
+pub ending-stretch : {now : List ℕ} {p : Page} {start end : ℕ} {row whole : List ℕ} → Ending now p start end row whole
+    → Coming now p start end end end 8 row whole
 ending-stretch c = record { all = c .all; left = []; room = c .room; mark = unknown; is = unknown-slot; stands = one-more (c .stands) }
 
-module _ {now : List ℕ} {p : Page} {start end : ℕ} {row whole now1 : List ℕ} {p1 : Page} {row1 whole1 : List ℕ} (k : Counted now p start end end end 8 row whole now1 p1 row1 whole1) where
+module _ {now : List ℕ} {p : Page} {start end : ℕ} {row whole now1 : List ℕ} {p1 : Page} {row1 whole1 : List ℕ}
+    (k : Counted now p start end end end 8 row whole now1 p1 row1 whole1) where
   module _ (c : Ending now p start end row whole) where
     abbrev last : Standing (c .all) [] start end (c .room) now1 p1 row1 whole1
     last = k .on (c .all) [] (c .room) unknown unknown-slot (one-more (c .stands))

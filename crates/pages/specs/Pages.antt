@@ -104,7 +104,8 @@ pub record Coming (now : List ℕ) (p : Page) (start end from to slot : ℕ) (ro
   pub stands : Standing all (stretchOf from to mark ∷ left) start end room now p row whole
 
 pub record Counted (now : List ℕ) (p : Page) (start end from to slot : ℕ) (row whole now′ : List ℕ) (p′ : Page) (row′ whole′ : List ℕ) : Type 0 where
-  pub on : (all left : List (Span Mark)) (room : List ℕ) (mark : Mark) → Slot mark slot → Standing all (stretchOf from to mark ∷ left) start end room now p row whole
+  pub on : (all left : List (Span Mark)) (room : List ℕ) (mark : Mark) → Slot mark slot
+      → Standing all (stretchOf from to mark ∷ left) start end room now p row whole
       → Standing all left start end room now′ p′ row′ whole′
   pub reached : to ≤ p′ .end .0
   pub kept : length now′ ≡ length now
@@ -117,7 +118,8 @@ pub record Ending (now : List ℕ) (p : Page) (start end : ℕ) (row whole : Lis
   pub stands : Standing all [] start end room now p row whole
 
 pub record Ended (now : List ℕ) (p : Page) (start end : ℕ) (row whole now′ : List ℕ) (r : ℕ) : Type 0 where
-  pub on : (all : List (Span Mark)) (room : List ℕ) → Standing all [] start end room now p row whole → Put room 0 (encodeAll (rawForms all start end)) r now′ r
+  pub on : (all : List (Span Mark)) (room : List ℕ) → Standing all [] start end room now p row whole
+      → Put room 0 (encodeAll (rawForms all start end)) r now′ r
   pub kept : length now′ ≡ length now
 
 -- ---- the start

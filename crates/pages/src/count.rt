@@ -78,7 +78,8 @@ pub fn stretch(
     whole: &mut [u64; SLOTS],
 ) -> Page
     requires { ⌜ Coming (now out) page (start .0) (end .0) (from .0) (to .0) slot (now row) (now whole) ⌝ }
-    ensures { λ r. ⌜ Counted (now (out .entry)) page (start .0) (end .0) (from .0) (to .0) slot (now (row .entry)) (now (whole .entry)) (now (out .exit)) r (now (row .exit)) (now (whole .exit)) ⌝ }
+    ensures { λ r. ⌜ Counted (now (out .entry)) page (start .0) (end .0) (from .0) (to .0) slot (now (row .entry)) (now (whole .entry))
+        (now (out .exit)) r (now (row .exit)) (now (whole .exit)) ⌝ }
 {
     shift(whole, slot, part(start.0, end.0, from.0, to.0));
     let mut a = page.start;

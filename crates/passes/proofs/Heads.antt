@@ -40,6 +40,7 @@ module _ (s : List ℕ) (z : Zone) (q : Piece) (n : ℕ) {head : Phase} where
       ∙ ap (λ (v : Uncertainty). headOf (q .from .0) (q .to .0) (calmIn s q) v n) (sym (widest-same (published (ruleOf s q .uncertainty))))
       ∙ ap (λ (x : Held). headOf (q .from .0) (q .to .0) x (wholeOf x) n) (sym (f .calm c))
 
-  pub span-head : {h : Held} → h ≡ heldIn s z q → {u : Uncertainty} → u ≡ wholeOf h → head ≡ headOf (q .from .0) (q .to .0) h u n → head ≡ pieceHead s z q n
+  pub span-head : {h : Held} → h ≡ heldIn s z q → {u : Uncertainty} → u ≡ wholeOf h → head ≡ headOf (q .from .0) (q .to .0) h u n
+      → head ≡ pieceHead s z q n
   span-head {h} e {u} f g =
       g ∙ ap (λ (v : Uncertainty). headOf (q .from .0) (q .to .0) h v n) f ∙ ap (λ (x : Held). headOf (q .from .0) (q .to .0) x (wholeOf x) n) e

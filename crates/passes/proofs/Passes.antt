@@ -50,14 +50,16 @@ abbrev pub Made : ℕ → List ℕ → List ℕ → Bool → ℕ → Phase → L
 Made at target written false stand head left = Starts target written left
 Made at target written true stand head left = Ends at target written stand head left
 
-pub record Writing (room : List ℕ) (at : ℕ) (target now : List ℕ) (begun : Bool) (stand : ℕ) (head : Phase) (place : ℕ) (left : List (Span Shown)) : Type 0 where
+pub record Writing (room : List ℕ) (at : ℕ) (target now : List ℕ) (begun : Bool) (stand : ℕ) (head : Phase) (place : ℕ)
+    (left : List (Span Shown)) : Type 0 where
   pub fits : at + length target ≤ length room
   pub written : List ℕ
   pub size : ℕ
   pub put : Put room at written size now place
   pub made : Made at target written begun stand head left
 
-pub write-start : (room : List ℕ) (at : ℕ) (head : Phase) (qs : List (Span Shown)) → length qs ≤ spansMost → at + length (bytesOf (joined phases qs)) ≤ length room
+pub write-start : (room : List ℕ) (at : ℕ) (head : Phase) (qs : List (Span Shown)) → length qs ≤ spansMost
+    → at + length (bytesOf (joined phases qs)) ≤ length room
     → Writing room at (bytesOf (joined phases qs)) room false at head at qs
 write-start room at head qs h p =
     record {
@@ -85,7 +87,8 @@ abbrev pub headBy : Bool → Phase → Phase → Phase
 headBy joining head new = cond joining (joinedHead head new) new
 
 -- what the code asks for while it writes the span q, and what that leaves
-pub record Goes (room : List ℕ) (at : ℕ) (target now : List ℕ) (stand : ℕ) (head : Phase) (place : ℕ) (q : Span Shown) (qs : List (Span Shown)) (joining : Bool) : Type 0 where
+pub record Goes (room : List ℕ) (at : ℕ) (target now : List ℕ) (stand : ℕ) (head : Phase) (place : ℕ) (q : Span Shown) (qs : List (Span Shown))
+    (joining : Bool) : Type 0 where
   pub begin : place + cond joining 0 105 ≤ length room
   pub space : Inside (trailAt joining place) (35 * many q) now
   pub count : cond joining (head .events) 0 + many q < 4294967296
@@ -113,7 +116,8 @@ module _ {room : List ℕ} {at : ℕ} {target now : List ℕ} {stand : ℕ} {hea
         omega (arith, o .few),
       )
 
-  module _ (l : many q ≤ 1280) (begun : Bool) (w : Writing room at target now begun stand head place (q ∷ qs)) (e : joinsNext (shows begun head) q ≡ false) where
+  module _ (l : many q ≤ 1280) (begun : Bool) (w : Writing room at target now begun stand head place (q ∷ qs))
+      (e : joinsNext (shows begun head) q ≡ false) where
     own-room : place + (105 + 35 * many q) ≤ length now
     own-room =
         let a = ap length (ahead begun w e .0) in
@@ -191,7 +195,8 @@ module _ {room : List ℕ} {at : ℕ} {target now : List ℕ} {stand : ℕ} {hea
           from = refl;
         }
 
-    join-write : {now1 now2 : List ℕ} {end : ℕ} → Put now place (eventBytes q) (35 * many q) now1 end → now2 ≡ wrote now1 stand (encode (phase (phaseOf (joinedHead head (headAt q)))))
+    join-write : {now1 now2 : List ℕ} {end : ℕ} → Put now place (eventBytes q) (35 * many q) now1 end
+        → now2 ≡ wrote now1 stand (encode (phase (phaseOf (joinedHead head (headAt q)))))
         → Writing room at target now2 true stand (joinedHead head (headAt q)) end qs
     join-write {now1} y z =
         let h = head-length (headAt both) ∙ sym (head-length (headAt s)) in

@@ -13,7 +13,8 @@ use Rattle.answer.specs.declared.Phase.{Phase}
 use Rattle.answer.proofs.Amended.{begun-amends, begun-put}
 
 -- a record behind what was written: what follows it is written first
-pub record-behind : {room vs now : List ℕ} {at k place : ℕ} → Put room at vs k now place → (h : List ℕ) {ws now1 now2 : List ℕ} {trail n end : ℕ} → Put now trail ws n now1 end
+pub record-behind : {room vs now : List ℕ} {at k place : ℕ} → Put room at vs k now place
+    → (h : List ℕ) {ws now1 now2 : List ℕ} {trail n end : ℕ} → Put now trail ws n now1 end
     → trail ≡ place + length h → Inside trail n now → now2 ≡ wrote now1 place h → Put room at (vs ++ (h ++ ws)) (k + (length h + n)) now2 end
 record-behind {now = now} {k = k} {place = place} w h {ws} {now1} {now2} {trail} {n} {end} y e i z =
     let l = length-append h ws in
@@ -33,7 +34,8 @@ module _ {room now : List ℕ} {at k place : ℕ} (done h behind : List ℕ) (w 
   more : Put room at (done ++ (h ++ (behind ++ ws))) (k + n) now1 end
   more = simp append-assoc at (also (k + n) w y refl (omega (arith, w .behind, w .kept)))
 
-  pub amended : (g : List ℕ) {now2 : List ℕ} → length g ≡ length h → now2 ≡ wrote now1 stand g → Put room at (done ++ (g ++ (behind ++ ws))) (k + n) now2 end
+  pub amended : (g : List ℕ) {now2 : List ℕ} → length g ≡ length h → now2 ≡ wrote now1 stand g
+      → Put room at (done ++ (g ++ (behind ++ ws))) (k + n) now2 end
   amended g {now2} e z =
       let fits : Inside at (length (done ++ (h ++ (behind ++ ws)))) room = omega (arith, more .many, w .behind, w .kept) in
       let same = z ∙ ap (λ (x : List ℕ). wrote x stand g) (more .same) ∙ wrote-over room at stand done h (behind ++ ws) g s e fits in

@@ -64,8 +64,10 @@ module _ (s : List ℕ) (first : ℕ) (ats offsets rules events : List ℕ) (hi 
     pub fits : Fits s z q
     pub goes : Goes room at target now stand head place (spanOf q) (left (behind q)) joining
 
-  pub taken : Ready s first ats offsets rules events → {w : Walk} {q : Piece} {a : List ℕ} → Coming w q a → {p e : ℕ} → p ≡ pointOf s q (q .point) .phase → e ≡ ruleOf s q .evidence
-      → {room : List ℕ} {at : ℕ} {target now : List ℕ} {begun : Bool} {stand : ℕ} {head : Phase} {place : ℕ} → Writing room at target now begun stand head place (left w)
+  pub taken : Ready s first ats offsets rules events → {w : Walk} {q : Piece} {a : List ℕ} → Coming w q a → {p e : ℕ}
+      → p ≡ pointOf s q (q .point) .phase → e ≡ ruleOf s q .evidence
+      → {room : List ℕ} {at : ℕ} {target now : List ℕ} {begun : Bool} {stand : ℕ} {head : Phase} {place : ℕ}
+      → Writing room at target now begun stand head place (left w)
       → {l : Last} → l ≡ shows begun head → {b : Bool} → b ≡ joinsLast l (q .from .0) p e → Taken room at target now stand head place q b
   taken r {w} {q} c f d {room} {at} {target} {now} {begun} {stand} {head} {place} i {l} k {b} j =
       record {
@@ -85,7 +87,8 @@ module _ (s : List ℕ) (first : ℕ) (ats offsets rules events : List ℕ) (hi 
     target-is : target ≡ bytesLeft w
     target-is = ap (λ (l : List (Span Shown)). encodeAll (phaseForms l)) (Walked.begun-spans s first ats offsets rules events hi r b)
 
-    pub begun-writing : {room : List ℕ} {at : ℕ} (head : Phase) → at + length target ≤ length room → Writing room at (bytesLeft w) room false at head at (left w)
+    pub begun-writing : {room : List ℕ} {at : ℕ} (head : Phase) → at + length target ≤ length room
+        → Writing room at (bytesLeft w) room false at head at (left w)
     begun-writing {room} {at} head h = write-start room at head (left w) (Walked.begun-few s first ats offsets rules events hi r b) (let e = ap length target-is in omega arith)
 
     pub walk-put : {room : List ℕ} {at : ℕ} {now : List ℕ} {begun : Bool} {stand : ℕ} {head : Phase} {place : ℕ} {rest : List (Span Shown)}
@@ -94,7 +97,8 @@ module _ (s : List ℕ) (first : ℕ) (ats offsets rules events : List ℕ) (hi 
 
   -- ---- the walk goes on
 
-  module _ {room : List ℕ} {at : ℕ} {target now : List ℕ} {begun : Bool} {stand : ℕ} {head : Phase} {place : ℕ} {w w′ : Walk} (i : Writing room at target now begun stand head place (left w)) where
+  module _ {room : List ℕ} {at : ℕ} {target now : List ℕ} {begun : Bool} {stand : ℕ} {head : Phase} {place : ℕ} {w w′ : Walk}
+      (i : Writing room at target now begun stand head place (left w)) where
     pub turn-written : {a : List ℕ} → LeadsOn s z (venueBy z g) hi w w′ a → Writing room at target now begun stand head place (left w′)
     turn-written l = subst (λ (x : List (Span Shown)). Writing room at target now begun stand head place x) (Walked.turn-left s first ats offsets rules events hi l) i
 
@@ -135,5 +139,6 @@ module _ {s : List ℕ} {first : ℕ} {ats offsets rules events : List ℕ} {hi 
       pub its-record : Recorded now1 stand′ b head′
       its-record = rw (v, its-head) (t .goes .ready its-events)
 
-      pub written : {now2 : List ℕ} → now2 ≡ wrote now1 stand′ (encode (phase (phaseOf head′))) → Writing room at target now2 true stand′ head′ end (left s first ats offsets rules events hi (behind q))
+      pub written : {now2 : List ℕ} → now2 ≡ wrote now1 stand′ (encode (phase (phaseOf head′)))
+          → Writing room at target now2 true stand′ head′ end (left s first ats offsets rules events hi (behind q))
       written o = rw (v, its-head) (t .goes .next its-events (rw (← v, ← its-head) o))

@@ -154,7 +154,8 @@ pub fn put_walk(
         × Inside at (length (encodeAll (walkForms (now book) first (now ats) (now offsets) (now rules) (now events) (lo .0) (hi .0)))) (now out) ⌝ }
     ensures { λ r. ⌜ Put (now (out .entry)) at
         (encodeAll (walkForms (now (book .entry)) first (now (ats .entry)) (now (offsets .entry)) (now (rules .entry)) (now (events .entry)) (lo .0) (hi .0)))
-        (length (encodeAll (walkForms (now (book .entry)) first (now (ats .entry)) (now (offsets .entry)) (now (rules .entry)) (now (events .entry)) (lo .0) (hi .0))))
+        (length (encodeAll
+        (walkForms (now (book .entry)) first (now (ats .entry)) (now (offsets .entry)) (now (rules .entry)) (now (events .entry)) (lo .0) (hi .0))))
         (now (out .exit)) r ⌝ }
 {
     let mut kept = [0u32; MOST_KEPT];

@@ -110,7 +110,8 @@ module _ (s : List ℕ) (c : Coverage) (named : Names s c) where
       )
 
       -- in integers
-      agreed : (l p : Option Mark) → Agrees (showing (values .zone) (values .governing) (values .events)) (values .coverage) (instantOf at) l p → Agreed s c at l p
+      agreed : (l p : Option Mark) → Agrees (showing (values .zone) (values .governing) (values .events)) (values .coverage) (instantOf at) l p
+          → Agreed s c at l p
       agreed l p a =
           let k = covered-is in
           record {
@@ -151,7 +152,8 @@ inside-plain rs a b c d h i (some _) p =
       after = p .after;
     }
 
-pub plain-inside : (s : List ℕ) (start end start′ end′ : ℤ) → windowRefusal start end ≡ 0 → leZ start start′ ≡ true → ltZ start′ end′ ≡ true → leZ end′ end ≡ true
+pub plain-inside : (s : List ℕ) (start end start′ end′ : ℤ) → windowRefusal start end ≡ 0 → leZ start start′ ≡ true → ltZ start′ end′ ≡ true
+    → leZ end′ end ≡ true
     → Plain s start end → (windowRefusal start′ end′ ≡ 0) × Plain s start′ end′
 plain-inside s start end start′ end′ e a b c p =
     let passed = window-inside start end start′ end′ e a b c in

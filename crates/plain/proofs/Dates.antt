@@ -26,7 +26,8 @@ module _ {A : Type 0} (v : Venue A) (r : Rule) where
 
 module _ {A : Type 0} (v : Venue A) (d : ℕ) where
   -- a rule's spans of a plain date, if the rule starts at 00:00
-  points-tile : (r : Rule) (ps : List Point) → Starts ps → Rises (v .conv d) (midnight v d) (midnight v (suc d)) ps → Tile (midnight v d) (midnight v (suc d)) (ofPoints v r d ps)
+  points-tile : (r : Rule) (ps : List Point) → Starts ps → Rises (v .conv d) (midnight v d) (midnight v (suc d)) ps
+      → Tile (midnight v d) (midnight v (suc d)) (ofPoints v r d ps)
   points-tile r [] s h = absurd s
   points-tile r (p ∷ ps) s h =
       let z : max 0 (v .conv d (p .time)) ≡ v .conv d (p .time) = omega arith in

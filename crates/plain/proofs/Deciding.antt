@@ -99,7 +99,8 @@ module _ (z : Zone) (g : ℕ → Option Rule) where
       on p r i (yes l) a b = r .run i l b
       on p r i (no l) a b = one p i a (omega arith)
 
-      go : (q : Bool) → leb end (midnight v d) ≡ q → PlainDate v d → (reaches z g end n (suc d) ≡ true → Reached end n (suc d)) → (q || reaches z g end n (suc d)) ≡ true → Reached end (suc n) d
+      go : (q : Bool) → leb end (midnight v d) ≡ q → PlainDate v d → (reaches z g end n (suc d) ≡ true → Reached end n (suc d))
+          → (q || reaches z g end n (suc d)) ≡ true → Reached end (suc n) d
       go true q p next f = record { last = d; from = omega arith; few = omega arith; run = one p; closes = leb-true end (midnight v d) q }
       go false q p next f =
           let r = next f in
@@ -111,7 +112,8 @@ module _ (z : Zone) (g : ℕ → Option Rule) where
   reaches-no end (suc n) d r =
       rw (date-decides d .no (r .run d (omega arith) (r .from))) (go (decLe end (midnight v d)) (decLt d (r .last)) (reaches-no end n (suc d)))
     where
-      go : Dec (end ≤ midnight v d) → Dec (d < r .last) → (Reached end n (suc d) → reaches z g end n (suc d) ≡ true) → (leb end (midnight v d) || reaches z g end n (suc d)) ≡ true
+      go : Dec (end ≤ midnight v d) → Dec (d < r .last) → (Reached end n (suc d) → reaches z g end n (suc d) ≡ true)
+          → (leb end (midnight v d) || reaches z g end n (suc d)) ≡ true
       go (yes l) q next = rw (le-leb end (midnight v d) l)
       go (no l) (yes q) next =
           rw (lt-leb end (midnight v d) (omega arith))

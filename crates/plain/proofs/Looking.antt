@@ -74,7 +74,8 @@ module _ (z : Zone) (g : ℕ → Option Rule) (end d n : ℕ) where
 -- ---- as the code puts them together
 
 module _ (z : Zone) (g : ℕ → Option Rule) where
-  pub date-by : (d : ℕ) {a b : ℕ} {p q : Bool} → a ≡ takenAt z d 0 → b ≡ takenAt z (suc d) 0 → p ≡ inOrder (takenAt z d) a b (g d) → q ≡ readsThroughout z d a b
+  pub date-by : (d : ℕ) {a b : ℕ} {p q : Bool} → a ≡ takenAt z d 0 → b ≡ takenAt z (suc d) 0 → p ≡ inOrder (takenAt z d) a b (g d)
+      → q ≡ readsThroughout z d a b
       → ((leb a b && p) && q) ≡ plainDate z g d
   unfolding plainDate
   date-by d {a} {b} {p} {q} i j e f = ap₂ (λ (x y : Bool). (leb a b && x) && y) e f ∙ ap₂ (plainBetween z g d) i j

@@ -38,7 +38,8 @@ module _ (first : ℕ) (ats os : List ℕ) (ok : Valid first ats os) (g : ℕ �
 
   -- ---- a date, if the offset is o from a day before it to a day after it
 
-  module _ (d o : ℕ) (low : firstDay ≤ d) (high : d ≤ lastDay) (small : o ≤ 2 * mostOffset) (steady : (t : ℕ) → (d - 1) * dayNs ≤ t → t ≤ (d + 2) * dayNs → offsetAt z t ≡ o) where
+  module _ (d o : ℕ) (low : firstDay ≤ d) (high : d ≤ lastDay) (small : o ≤ 2 * mostOffset)
+      (steady : (t : ℕ) → (d - 1) * dayNs ≤ t → t ≤ (d + 2) * dayNs → offsetAt z t ≡ o) where
     -- conversion is a shift
     shifted : (x : ℕ) → d * dayNs ≤ x → x ≤ (d + 1) * dayNs → taken (resolve z x) ≡ instantBy o x
     shifted x a b = ap taken (resolve-steady first ats os ok x (omega arith) o (λ t l h. steady t (omega arith) (omega arith)))
@@ -118,7 +119,8 @@ in-days (negsuc k) e =
     let h = leb-true k (2177452800 * secondNs - 1) (and-true (leZ (instants .low) (negsuc k)) (leZ (negsuc k) (instants .high)) e .0) in
     (omega arith, omega arith)
 
-module _ (s : List ℕ) (c : Coverage) (named : Names s c) (start end : ℤ) (passes : windowRefusal start end ≡ 0) (short : instantOf end ≤ instantOf start + 3659 * dayNs) where
+module _ (s : List ℕ) (c : Coverage) (named : Names s c) (start end : ℤ) (passes : windowRefusal start end ≡ 0)
+    (short : instantOf end ≤ instantOf start + 3659 * dayNs) where
   abbrev zone : Zone
   zone = valuesOf (records s) c .zone
 

@@ -30,7 +30,8 @@ fn rises(
     to: Instant,
 ) -> bool
     requires { ⌜ Valid first (now ats) (now offsets) × Listed 3 (now book) rule ⌝ }
-    ensures { λ r. ⌜ r ≡ Deciding·rises (takenAt (zoneOf first (now (ats .entry)) (now (offsets .entry))) (d .0)) (from .0) (to .0) (ruleAt (now (book .entry)) rule .points) ⌝ }
+    ensures { λ r. ⌜ r ≡ Deciding·rises (takenAt (zoneOf first (now (ats .entry)) (now (offsets .entry))) (d .0)) (from .0) (to .0)
+        (ruleAt (now (book .entry)) rule .points) ⌝ }
 {
     let place = rule as usize;
     let n = rule_points(book, place);

@@ -65,7 +65,9 @@ fn tell_known(
     requires { ⌜ Valid first (now ats) (now offsets) × AllListed 4 (now book) (now events) × (length (now events) ≤ 32)
         × Listed 3 (now book) (g .rule) ⌝ }
     ensures { λ r. ⌜ Lent 0
-        (encodeAll (shownForms (g .start .at .0) (g .end .at .0) (shown (zoneOf first (now (ats .entry)) (now (offsets .entry))) (map (eventAt (now (book .entry))) (now (events .entry))) (heldBy (now (book .entry)) g))))
+        (encodeAll (shownForms (g .start .at .0) (g .end .at .0)
+        (shown (zoneOf first (now (ats .entry)) (now (offsets .entry))) (map (eventAt (now (book .entry))) (now (events .entry)))
+        (heldBy (now (book .entry)) g))))
         (now (out .entry)) (now (out .exit)) r ⌝ }
 {
     let start = g.start;
@@ -98,7 +100,9 @@ fn tell_venue(
 ) -> Reply
     requires { ⌜ Ready (now book) (h .first) (now ats) (now offsets) (now rules) (now events) ⌝ }
     ensures { λ r. ⌜ Lent 0
-        (encodeAll (told (valuesAt (now (book .entry)) h (now (ats .entry)) (now (offsets .entry)) (now (rules .entry)) (now (events .entry))) (Between (h .start) (h .end)) (t .0)))
+        (encodeAll (told
+        (valuesAt (now (book .entry)) h (now (ats .entry)) (now (offsets .entry)) (now (rules .entry)) (now (events .entry)))
+        (Between (h .start) (h .end)) (t .0)))
         (now (out .entry)) (now (out .exit)) r ⌝ }
 {
     let start = h.start;

@@ -62,7 +62,8 @@ module _ (s : List ℕ) (m n : ℤ) where
 
   -- ---- the answers, of a window as it was passed
 
-  pub judged-as : {o : Opened} {j : Judged} → SFits w64 m → SFits w64 n → o ≡ opened s → j ≡ judgedBy o (windowOf (toZ w64 (ofZ w64 m)) (toZ w64 (ofZ w64 n)))
+  pub judged-as : {o : Opened} {j : Judged} → SFits w64 m → SFits w64 n → o ≡ opened s
+      → j ≡ judgedBy o (windowOf (toZ w64 (ofZ w64 m)) (toZ w64 (ofZ w64 n)))
       → j ≡ judgedBy (opened s) (windowOf m n)
   judged-as x y e f = f ∙ ap₂ judgedBy e (ap₂ windowOf (toZ-ofZ w64 m x) (toZ-ofZ w64 n y))
 

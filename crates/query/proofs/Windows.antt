@@ -134,6 +134,7 @@ module _ (m n : ℤ) where
   window-refused {k} e = go (eqb (windowRefusal m n) 0) refl e
     where
       go : (x : Bool) → eqb (windowRefusal m n) 0 ≡ x
-          → Refused k ≡ cond x (Between (record { 0 = instantOf m }) (record { 0 = instantOf n })) (Refused (windowRefusal m n)) → (k ≡ windowRefusal m n) × (k ≡ 0 → ⊥)
+          → Refused k ≡ cond x (Between (record { 0 = instantOf m }) (record { 0 = instantOf n })) (Refused (windowRefusal m n))
+          → (k ≡ windowRefusal m n) × (k ≡ 0 → ⊥)
       go true i q = absurd (let y = ap caseOf q in omega arith)
       go false i q = let r : k ≡ windowRefusal m n = ap numberIn q in (r, λ z. eqb-false (windowRefusal m n) 0 i (sym r ∙ z))

@@ -65,7 +65,8 @@ module _ (s : List ℕ) where
     unfolding numberAt
     at-passed at before e = passed (badFrame s at) 2 (numberOf l before (recordAt s at)) (omega arith) e
 
-    passed-at : (at : ℕ) (before : List Record) (r : Record) → badFrame s at ≡ false → recordAt s at ≡ r → numberOf l before r ≡ 0 → numberAt l s at before ≡ 0
+    passed-at : (at : ℕ) (before : List Record) (r : Record) → badFrame s at ≡ false → recordAt s at ≡ r → numberOf l before r ≡ 0
+        → numberAt l s at before ≡ 0
     unfolding numberAt
     passed-at at before r b i e = rw b (ap (numberOf l before) i ∙ e)
 

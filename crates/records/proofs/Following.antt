@@ -39,7 +39,8 @@ many-same k r rs e = simp (eq-eqb (kindOf r) k e)
 pub many-other : (k : ℕ) (r : Record) (rs : List Record) → (kindOf r ≡ k → ⊥) → many k (r ∷ rs) ≡ many k rs
 many-other k r rs e = simp (ne-eqb (kindOf r) k e)
 
-pub many-room : (l : Limits) (k : ℕ) (before : List Record) (r : Record) → tooMany l before r ≡ false → many k before ≤ most l k → many k (r ∷ before) ≤ most l k
+pub many-room : (l : Limits) (k : ℕ) (before : List Record) (r : Record) → tooMany l before r ≡ false → many k before ≤ most l k
+    → many k (r ∷ before) ≤ most l k
 many-room l k before r e h = go (ℕ-discrete (kindOf r) k)
   where
     go : Dec (kindOf r ≡ k) → many k (r ∷ before) ≤ most l k

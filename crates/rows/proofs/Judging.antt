@@ -46,7 +46,8 @@ module _ (s : List ℕ) (at : ℕ) where
 
   pub phase-by : framed 16 103 s at ≡ true → (p c a b w x y : ℕ)
       → p ≡ number Forms.phasePlace s at → c ≡ number Forms.codePlace s at
-      → a ≡ number (Forms.tagBehind Forms.fromPlace) s at → b ≡ number (Forms.tagBehind Forms.toPlace) s at → w ≡ number (Forms.tagBehind Forms.wholeBefore) s at
+      → a ≡ number (Forms.tagBehind Forms.fromPlace) s at → b ≡ number (Forms.tagBehind Forms.toPlace) s at
+      → w ≡ number (Forms.tagBehind Forms.wholeBefore) s at
       → x ≡ fromAt s at → y ≡ toAt s at
       → ((leb p 7 && leb c 3) && (((leb a 5 && leb b 5) && leb w 5) && ltb x y)) ≡ goodPhase s at
   unfolding goodPhase

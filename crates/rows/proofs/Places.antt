@@ -81,7 +81,8 @@ module _ (s : List ℕ) where
   mark-after (suc n) at =
       go (leb (length s) at) (eqb (number kind s at) 16) (eqb (number kind s at) 17) (mark-after n (behindPhase s at)) (mark-after n (behindGap at))
     where
-      go : (a b c : Bool) → min (behindPhase s at) (length s) ≤ markFrom n s (behindPhase s at) → min (behindGap at) (length s) ≤ markFrom n s (behindGap at)
+      go : (a b c : Bool) → min (behindPhase s at) (length s) ≤ markFrom n s (behindPhase s at)
+          → min (behindGap at) (length s) ≤ markFrom n s (behindGap at)
           → min at (length s) ≤ cond a (length s) (cond b (markFrom n s (behindPhase s at)) (cond c (markFrom n s (behindGap at)) at))
       go true b c p q = omega arith
       go false true c p q = omega arith

@@ -104,7 +104,8 @@ module _ (marks : Bool) (s : List ℕ) (at least n : ℕ) where
     unfolding standsAt
     tells = go (ltb 0 n) (goodEvent s at) (eqb at (length s)) (goodSegment s at) (ltb (fromAt s at) least) (marks && goodMark s at) refl refl refl refl refl refl
       where
-        go : (a b c d e f : Bool) → ltb 0 n ≡ a → goodEvent s at ≡ b → eqb at (length s) ≡ c → goodSegment s at ≡ d → ltb (fromAt s at) least ≡ e → (marks && goodMark s at) ≡ f
+        go : (a b c d e f : Bool) → ltb 0 n ≡ a → goodEvent s at ≡ b → eqb at (length s) ≡ c → goodSegment s at ≡ d
+            → ltb (fromAt s at) least ≡ e → (marks && goodMark s at) ≡ f
             → Tells (cond a (cond b Stands.Event Stands.Bad) (cond c Stands.End (cond d (cond e Stands.Bad Stands.Segment) (cond f Stands.Mark Stands.Bad))))
         go true true c d e f i j k l m o =
             let p = ltb-true 0 n i in

@@ -96,7 +96,8 @@ module _ (s : List ℕ) (at : ℕ) where
         to = to;
       }
 
-  event-is : (e : Forms.Event) → GoodEvent e → at + 35 ≤ length s → Says (allFields (event e)) s at 0 → (goodEvent s at ≡ true) × (eventOf s at ≡ eventSaid e)
+  event-is : (e : Forms.Event) → GoodEvent e → at + 35 ≤ length s → Says (allFields (event e)) s at 0
+      → (goodEvent s at ≡ true) × (eventOf s at ≡ eventSaid e)
   unfolding goodEvent
   event-is e g h (z, (k, (c, (a, u)))) =
       let i = placed-is Forms.eventAt (e .at) (g .fits .at) a in (

@@ -107,7 +107,8 @@ module _ {A B : Type 0} (f : A → B) (t : ℕ) where
       let e : ltb from to ≡ true = lt-ltb from to (omega arith) in
       rw e (look-in (record { from = from; to = to; body = x }) rest a b)
 
-  pub keep-out : (from to : ℕ) (x : A) (rest : List (Span A)) → holds (record { from = from; to = to; body = x }) t ≡ false → look f (keep from to x rest) t ≡ look f rest t
+  pub keep-out : (from to : ℕ) (x : A) (rest : List (Span A)) → holds (record { from = from; to = to; body = x }) t ≡ false
+      → look f (keep from to x rest) t ≡ look f rest t
   unfolding keep look
   keep-out from to x rest h = go (ltb from to)
     where
@@ -142,7 +143,8 @@ look-found f t b [] e = absurd (none-some e)
     none-some q = let y : _≡_ {A = ℕ} 0 1 = cc in omega arith
 look-found {A} f t b (s ∷ ss) e = go (leb (s .from) t) refl (ltb t (s .to)) refl (λ q. look-found f t b ss q) e
   where
-    more : ((r : Span A) × In r ss × (f (r .body) ≡ b) × (r .from ≤ t) × (t < r .to)) → (r : Span A) × In r (s ∷ ss) × (f (r .body) ≡ b) × (r .from ≤ t) × (t < r .to)
+    more : ((r : Span A) × In r ss × (f (r .body) ≡ b) × (r .from ≤ t) × (t < r .to))
+        → (r : Span A) × In r (s ∷ ss) × (f (r .body) ≡ b) × (r .from ≤ t) × (t < r .to)
     more g = (g .0, inr (g .1), g .2, g .3, g .4)
 
     go : (p : Bool) → leb (s .from) t ≡ p → (q : Bool) → ltb t (s .to) ≡ q

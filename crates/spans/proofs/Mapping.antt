@@ -125,7 +125,8 @@ unfolding look
 look-by f [] t = refl
 look-by f (s ∷ ss) t = go (holds s t) (look-by f ss t)
   where
-    go : (q : Bool) → look f ss t ≡ onShown f (look (λ x. x) ss t) → cond q (some (f (s .body))) (look f ss t) ≡ onShown f (cond q (some (s .body)) (look (λ x. x) ss t))
+    go : (q : Bool) → look f ss t ≡ onShown f (look (λ x. x) ss t)
+        → cond q (some (f (s .body))) (look f ss t) ≡ onShown f (cond q (some (s .body)) (look (λ x. x) ss t))
     go true e = refl
     go false e = e
 

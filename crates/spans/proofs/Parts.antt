@@ -39,7 +39,8 @@ module _ {A : Type 0} (B : Body A) (gap : A) (lacks : B .mark gap ≡ unknown) w
     shows-joined s r h = (h .0, (h .1 .0, merges (s .body) (r .body) ∙ h .1 .1))
 
     -- a gap behind phases
-    behind : (s : Span A) → Shows s → (ss : List (Span A)) → Phases ss → (c d : ℕ) → joinFrom B s (ss ++ keep c d gap []) ≡ joinFrom B s ss ++ keep c d gap []
+    behind : (s : Span A) → Shows s → (ss : List (Span A)) → Phases ss → (c d : ℕ)
+        → joinFrom B s (ss ++ keep c d gap []) ≡ joinFrom B s ss ++ keep c d gap []
     unfolding joinFrom keep
     behind s h [] t c d = go (ltb c d)
       where

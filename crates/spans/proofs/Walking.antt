@@ -127,7 +127,8 @@ module _ {A : Type 0} (v : Venue A) where
             (clip-look f t cursor hi (spans v e) i j ∙ after f t (midnight v e) (midnight v (suc e)) (spans v e) (omega arith) (fits .within))
             ∙ on (omega arith)
 
-    pub walk-look : (k n e cursor : ℕ) → k ≤ n → ((d : ℕ) → e ≤ d → d < e + k → Fits d) → midnight v e ≤ cursor → hi ≤ midnight v (e + k) → cursor ≤ t → t < hi
+    pub walk-look : (k n e cursor : ℕ) → k ≤ n → ((d : ℕ) → e ≤ d → d < e + k → Fits d) → midnight v e ≤ cursor → hi ≤ midnight v (e + k)
+        → cursor ≤ t → t < hi
         → look f (walk v hi n cursor) t ≡ look f (spans v (v .reads t)) t
     walk-look zero n e cursor l fits a b i j = let z : e + 0 ≡ e = omega arith in absurd (omega (arith, ap (midnight v) z))
     walk-look (suc k) zero e cursor l fits a b i j = absurd (omega arith)

@@ -104,7 +104,8 @@ module _ (s : List ℕ) (m n : ℤ) {room : List ℕ} {r : Reply} where
 
     -- a venue
     pub close-venue : {h : Header} (j : Named s m n h a b) (v : Values) → v ≡ valuesOf (records s) (j .known .covered)
-        → Lent (tooLong (a .0) (b .0)) (written (rawOf v (a .0) (b .0)) (a .0) (b .0)) room left r → Lent (tallyNumber s m n) (tallyAnswer s m n) room left r
+        → Lent (tooLong (a .0) (b .0)) (written (rawOf v (a .0) (b .0)) (a .0) (b .0)) room left r
+        → Lent (tallyNumber s m n) (tallyAnswer s m n) room left r
     unfolding tallyAnswer
     close-venue {h} j v q w =
         let k = j .known in

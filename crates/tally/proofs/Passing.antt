@@ -90,7 +90,8 @@ module _ {start end after : ℕ} {all : List (Span Mark)} {room now : List ℕ} 
     last-put e = e .on all room last-counted
 
 -- a venue without data has no other
-pub blank-first : {start end : ℕ} {room : List ℕ} → start < end → Inside 0 (100 * (length (rowsOf start end) + 1)) room → {p : Page} {row whole : List ℕ} → First start end p row whole
+pub blank-first : {start end : ℕ} {room : List ℕ} → start < end → Inside 0 (100 * (length (rowsOf start end) + 1)) room
+    → {p : Page} {row whole : List ℕ} → First start end p row whole
     → Standing (rawBlank start end) (rawBlank start end) start end room room p row whole
 blank-first {start} {end} h fits f = first-standing (rawBlank start end) h (blank-ordered start end) (omega (arith, fits)) f
 
@@ -117,7 +118,8 @@ module _ (s : List ℕ) (first : ℕ) (ats offsets rules : List ℕ) (hi : ℕ) 
   ComesFirst w q a = Comes s zone venue hi w q a
 
   -- pieces are counted while the walk goes on
-  pub record Walked (start end : ℕ) (w : Walk) (now : List ℕ) (p : Page) (row whole : List ℕ) (w′ : Walk) (now′ : List ℕ) (p′ : Page) (row′ whole′ : List ℕ) : Type 0 where
+  pub record Walked (start end : ℕ) (w : Walk) (now : List ℕ) (p : Page) (row whole : List ℕ) (w′ : Walk) (now′ : List ℕ) (p′ : Page)
+      (row′ whole′ : List ℕ) : Type 0 where
     pub on : (all last : List (Span Mark)) (room : List ℕ) → Standing all (pieces w ++ last) start end room now p row whole
         → Standing all (pieces w′ ++ last) start end room now′ p′ row′ whole′
     pub kept : length now′ ≡ length now
@@ -136,7 +138,8 @@ module _ (s : List ℕ) (first : ℕ) (ats offsets rules : List ℕ) (hi : ℕ) 
   module _ {start end : ℕ} where
     walk-standing : {lo : ℕ} {w : Walk} {a : List ℕ} → Begun s zone venue 3659 lo w a
         → {all : List (Span Mark)} (last : List (Span Mark)) {room now : List ℕ} {p : Page} {row whole : List ℕ}
-        → Standing all (walked s first ats offsets rules lo hi ++ last) start end room now p row whole → Standing all (pieces w ++ last) start end room now p row whole
+        → Standing all (walked s first ats offsets rules lo hi ++ last) start end room now p row whole
+        → Standing all (pieces w ++ last) start end room now p row whole
     walk-standing b {all} last {room} {now} {p} {row} {whole} x =
         subst (λ (l : List (Span Mark)). Standing all (l ++ last) start end room now p row whole) (sym (ap (map heldMark) (b .all hi))) x
 
@@ -155,7 +158,8 @@ module _ (s : List ℕ) (first : ℕ) (ats offsets rules : List ℕ) (hi : ℕ) 
         piece-standing all last room x =
             subst (λ (l : List (Span Mark)). Standing all (l ++ last) start end room now1 p1 row1 whole1) (come-first c) (r .on all last room x)
 
-        pub walked-coming : {lo : ℕ} {a′ : List ℕ} → Begun s zone venue 3659 lo w a′ → AllComing (walked s first ats offsets rules lo hi) now p start end row whole
+        pub walked-coming : {lo : ℕ} {a′ : List ℕ} → Begun s zone venue 3659 lo w a′
+            → AllComing (walked s first ats offsets rules lo hi) now p start end row whole
             → Coming now1 p1 start end (q .from .0) (q .to .0) j row1 whole1
         walked-coming b x =
             record {

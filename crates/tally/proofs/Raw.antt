@@ -117,13 +117,15 @@ module _ (v : Values) where
         let ss = unjoined venue none (v .coverage) window in
         raw-unjoined k x y ∙ sym (joined-total segments merges start end ss (unjoined-within venue none (v .coverage) window covers h) k x y)
 
-pub blank-total : (start end : ℕ) (k : Mark → Bool) (x y : ℕ) → total marks k x y (rawBlank start end) ≡ total segments k x y (blank none (record { start = start; end = end }))
+pub blank-total : (start end : ℕ) (k : Mark → Bool) (x y : ℕ)
+    → total marks k x y (rawBlank start end) ≡ total segments k x y (blank none (record { start = start; end = end }))
 unfolding blank total
 blank-total start end k x y = sym (keep-total segments k x y start end none [])
 
 -- ---- equal totals, equal records
 
-module _ {A C : Type 0} (B : Body A) (D : Body C) (ss : List (Span A)) (ts : List (Span C)) (same : (k : Mark → Bool) (x y : ℕ) → total B k x y ss ≡ total D k x y ts) where
+module _ {A C : Type 0} (B : Body A) (D : Body C) (ss : List (Span A)) (ts : List (Span C))
+    (same : (k : Mark → Bool) (x y : ℕ) → total B k x y ss ≡ total D k x y ts) where
   pub same-totals : (x y : ℕ) → rowTotals B x y ss ≡ rowTotals D x y ts
   same-totals x y =
       let p : (i : ℕ) → total B (isPhase i) x y ss ≡ total D (isPhase i) x y ts = λ i. same (isPhase i) x y in

@@ -36,6 +36,8 @@ pub record AllComing (ss : List (Span Mark)) (now : List ℕ) (p : Page) (start 
   pub room : List ℕ
   pub stands : Standing all (ss ++ last) start end room now p row whole
 
-pub record AllCounted (ss : List (Span Mark)) (now : List ℕ) (p : Page) (start end : ℕ) (row whole now′ : List ℕ) (p′ : Page) (row′ whole′ : List ℕ) : Type 0 where
-  pub on : (all last : List (Span Mark)) (room : List ℕ) → Standing all (ss ++ last) start end room now p row whole → Standing all last start end room now′ p′ row′ whole′
+pub record AllCounted (ss : List (Span Mark)) (now : List ℕ) (p : Page) (start end : ℕ) (row whole now′ : List ℕ) (p′ : Page)
+    (row′ whole′ : List ℕ) : Type 0 where
+  pub on : (all last : List (Span Mark)) (room : List ℕ) → Standing all (ss ++ last) start end room now p row whole
+      → Standing all last start end room now′ p′ row′ whole′
   pub kept : length now′ ≡ length now

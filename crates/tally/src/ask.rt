@@ -33,7 +33,8 @@ const MOST_NS: u64 = 400 * DAY_NS;
 // A venue without data.
 fn tell_blank(start: Instant, end: Instant, out: &mut [u8]) -> Reply
     requires { ⌜ start .0 < end .0 ⌝ }
-    ensures { λ r. ⌜ Lent (tooLong (start .0) (end .0)) (encodeAll (rawForms (rawBlank (start .0) (end .0)) (start .0) (end .0))) (now (out .entry)) (now (out .exit)) r ⌝ }
+    ensures { λ r. ⌜ Lent (tooLong (start .0) (end .0)) (encodeAll (rawForms (rawBlank (start .0) (end .0)) (start .0) (end .0)))
+        (now (out .entry)) (now (out .exit)) r ⌝ }
 {
     if MOST_NS < end.0 - start.0 {
         return refused(TOO_LONG);
@@ -58,7 +59,9 @@ fn tell_tally(
 ) -> Reply
     requires { ⌜ Ready (now book) (h .first) (now ats) (now offsets) (now rules) (now events) × (h .start .0 < h .end .0) × (start .0 < end .0) ⌝ }
     ensures { λ r. ⌜ Lent (tooLong (start .0) (end .0))
-        (encodeAll (rawForms (rawOf (valuesAt (now (book .entry)) h (now (ats .entry)) (now (offsets .entry)) (now (rules .entry)) (now (events .entry))) (start .0) (end .0)) (start .0) (end .0)))
+        (encodeAll (rawForms
+        (rawOf (valuesAt (now (book .entry)) h (now (ats .entry)) (now (offsets .entry)) (now (rules .entry)) (now (events .entry))) (start .0) (end .0))
+        (start .0) (end .0)))
         (now (out .entry)) (now (out .exit)) r ⌝ }
 {
     if MOST_NS < end.0 - start.0 {

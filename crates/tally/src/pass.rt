@@ -71,7 +71,9 @@ fn count_walk(
 ) -> Page
     requires { ⌜ Valid first (now ats) (now offsets) × AllListed 3 (now book) (now rules)
         × AllComing (walked (now book) first (now ats) (now offsets) (now rules) (lo .0) (hi .0)) (now out) page (start .0) (end .0) (now row) (now whole) ⌝ }
-    ensures { λ r. ⌜ AllCounted (walked (now (book .entry)) first (now (ats .entry)) (now (offsets .entry)) (now (rules .entry)) (lo .0) (hi .0)) (now (out .entry)) page (start .0) (end .0)
+    ensures { λ r. ⌜ AllCounted
+        (walked (now (book .entry)) first (now (ats .entry)) (now (offsets .entry)) (now (rules .entry)) (lo .0) (hi .0))
+        (now (out .entry)) page (start .0) (end .0)
         (now (row .entry)) (now (whole .entry)) (now (out .exit)) r (now (row .exit)) (now (whole .exit)) ⌝ }
 {
     let mut kept = [0u32; MOST_KEPT];
@@ -135,7 +137,9 @@ pub(crate) fn put_tallies(
     requires { ⌜ Ready (now book) (h .first) (now ats) (now offsets) (now rules) (now events) × (h .start .0 < h .end .0)
         × (start .0 < end .0) × Inside 0 (100 * (length (rowsOf (start .0) (end .0)) + 1)) (now out) ⌝ }
     ensures { λ r. ⌜ Put (now (out .entry)) 0
-        (encodeAll (rawForms (rawOf (valuesAt (now (book .entry)) h (now (ats .entry)) (now (offsets .entry)) (now (rules .entry)) (now (events .entry))) (start .0) (end .0)) (start .0) (end .0)))
+        (encodeAll (rawForms
+        (rawOf (valuesAt (now (book .entry)) h (now (ats .entry)) (now (offsets .entry)) (now (rules .entry)) (now (events .entry))) (start .0) (end .0))
+        (start .0) (end .0)))
         r (now (out .exit)) r ⌝ }
 {
     let covered_from = h.start;

@@ -21,7 +21,8 @@ use Rattle.tell.specs.Shown.{eventForm}
 use Rattle.tell.proofs.Trailing.{no-turn, Trailing, trail-start, trail-room, trail-one, trail-end}
 
 -- what is read of an event, as its record
-kept-form : (book : List ℕ) (t p : ℕ) {u : Uncertainty} {code evidence : ℕ} → u ≡ published (eventAt book p .uncertainty) → code ≡ eventAt book p .code → evidence ≡ eventAt book p .evidence
+kept-form : (book : List ℕ) (t p : ℕ) {u : Uncertainty} {code evidence : ℕ} → u ≡ published (eventAt book p .uncertainty)
+    → code ≡ eventAt book p .code → evidence ≡ eventAt book p .evidence
     → _≡_ {A = Form} (event (eventOf code (record { at = record { 0 = t }; uncertainty = u }) evidence)) (eventForm (keptAt book t p))
 kept-form book t p {u} {code} {evidence} d e f =
     ap₂ (λ (m n : ℕ). event (eventOf m (record { at = record { 0 = t }; uncertainty = u }) n)) e f
@@ -55,7 +56,8 @@ module _ (book when which : List ℕ) (n : ℕ) (room : List ℕ) (at : ℕ) whe
     pub turn-room : i < n → place + 35 ≤ length now
     turn-room h = trail-room (listed o 0 n) room at (w .trailing) (here h) (o next) next (best-some o n next (turn-next h))
 
-    pub turn-one : {now′ : List ℕ} {place′ next′ code evidence : ℕ} {u : Uncertainty} → i < n → u ≡ published (eventAt book (getD which next 0) .uncertainty)
+    pub turn-one : {now′ : List ℕ} {place′ next′ code evidence : ℕ} {u : Uncertainty} → i < n
+        → u ≡ published (eventAt book (getD which next 0) .uncertainty)
         → code ≡ eventAt book (getD which next 0) .code → evidence ≡ eventAt book (getD which next 0) .evidence
         → Put now place (encode (event (eventOf code (record { at = record { 0 = getD when next 0 }; uncertainty = u }) evidence))) 35 now′ place′
         → Next when n (getD when next 0) (next + 1) next′ → Turning now′ place′ next′ (i + 1)

@@ -126,7 +126,8 @@ module _ (os : List Occurrence) (room : List ℕ) (at : ℕ) where
       pub trail-room : place + 35 ≤ length now
       trail-room = omega (arith, w .behind, w .fits, w .kept)
 
-      pub trail-one : {now′ : List ℕ} {place′ : ℕ} {best′ : Best} → Put now place (encode (eventForm o)) 35 now′ place′ → best′ ≡ next → Trailing now′ place′ (i + 1) best′
+      pub trail-one : {now′ : List ℕ} {place′ : ℕ} {best′ : Best} → Put now place (encode (eventForm o)) 35 now′ place′ → best′ ≡ next
+          → Trailing now′ place′ (i + 1) best′
       unfolding encodeAll
       trail-one {now′} {place′} {best′} p b =
           let rest = encodeAll (map eventForm (inTurn os (length os - (i + 1)) next)) in

@@ -67,7 +67,8 @@ const MOST_KEPT: usize = 32;
 
 // The n events that two arrays keep, one after the other, from `at` on. Answers the place behind them.
 fn put_kept(book: &[u8], when: &[u64], which: &[u32], n: usize, out: &mut [u8], at: usize) -> usize
-    requires { ⌜ (n ≤ length (now when)) × (n ≤ length (now which)) × ((i : ℕ) → i < n → Listed 4 (now book) (getD (now which) i 0)) × Inside at (35 * n) (now out) ⌝ }
+    requires { ⌜ (n ≤ length (now when)) × (n ≤ length (now which)) × ((i : ℕ) → i < n → Listed 4 (now book) (getD (now which) i 0))
+        × Inside at (35 * n) (now out) ⌝ }
     ensures { λ r. ⌜ Put (now (out .entry)) at
         (encodeAll (map eventForm (byInstant (listed (keptOf (now (book .entry)) (now (when .entry)) (now (which .entry))) 0 n))))
         (35 * n) (now (out .exit)) r ⌝ }
@@ -110,7 +111,8 @@ fn put_sought(
     requires { ⌜ Valid first (now ats) (now offsets) × AllListed 4 (now book) (now events) × (length (now events) ≤ 32)
         × Inside at (35 * length (found (zoneOf first (now ats) (now offsets)) (map (eventAt (now book)) (now events)) (from .0) (to .0))) (now out) ⌝ }
     ensures { λ r. ⌜ Put (now (out .entry)) at
-        (encodeAll (map eventForm (eventsIn (zoneOf first (now (ats .entry)) (now (offsets .entry))) (map (eventAt (now (book .entry))) (now (events .entry))) (from .0) (to .0))))
+        (encodeAll (map eventForm (eventsIn (zoneOf first (now (ats .entry)) (now (offsets .entry)))
+        (map (eventAt (now (book .entry))) (now (events .entry))) (from .0) (to .0))))
         (35 * length (found (zoneOf first (now (ats .entry)) (now (offsets .entry))) (map (eventAt (now (book .entry))) (now (events .entry))) (from .0) (to .0)))
         (now (out .exit)) r ⌝ }
 {
@@ -152,7 +154,8 @@ pub fn put_events(
     requires { ⌜ Valid first (now ats) (now offsets) × AllListed 4 (now book) (now events) × (length (now events) ≤ 32)
         × Inside at (35 * length (found (zoneOf first (now ats) (now offsets)) (map (eventAt (now book)) (now events)) (from .0) (to .0))) (now out) ⌝ }
     ensures { λ r. ⌜ Put (now (out .entry)) at
-        (encodeAll (map eventForm (eventsIn (zoneOf first (now (ats .entry)) (now (offsets .entry))) (map (eventAt (now (book .entry))) (now (events .entry))) (from .0) (to .0))))
+        (encodeAll (map eventForm (eventsIn (zoneOf first (now (ats .entry)) (now (offsets .entry)))
+        (map (eventAt (now (book .entry))) (now (events .entry))) (from .0) (to .0))))
         (35 * length (found (zoneOf first (now (ats .entry)) (now (offsets .entry))) (map (eventAt (now (book .entry))) (now (events .entry))) (from .0) (to .0)))
         (now (out .exit)) r ⌝ }
 {

@@ -77,7 +77,9 @@ fn tell_venue(
     out: &mut [u8],
 ) -> Reply
     requires { ⌜ Ready (now book) (h .first) (now ats) (now offsets) (now rules) (now events) ⌝ }
-    ensures { λ r. ⌜ Lent 0 (encodeAll (told (valuesAt (now (book .entry)) h (now (ats .entry)) (now (offsets .entry)) (now (rules .entry)) (now (events .entry))) (Between (h .start) (h .end)) (start .0) (end .0)))
+    ensures { λ r. ⌜ Lent 0 (encodeAll (told
+        (valuesAt (now (book .entry)) h (now (ats .entry)) (now (offsets .entry)) (now (rules .entry)) (now (events .entry)))
+        (Between (h .start) (h .end)) (start .0) (end .0)))
         (now (out .entry)) (now (out .exit)) r ⌝ }
 {
     let covered_from = h.start;

@@ -43,7 +43,8 @@ module _ (z : Zone) (r : Rule) (d : ℕ) where
         ∙ ap (λ (j : ℕ). set (paste old 0 (edgeInstants z r d) i) j (instantAt z r d i)) (sym q)
         ∙ paste-suc old 0 (edgeInstants z r d) i 0 (omega arith) (omega arith)
 
-    pub filling-next : (y : ℕ) → i < length (r .points) → x ≡ max b y → y ≡ taken (resolve z (nearestReading (readingAt d (pointAt z r d i .time)))) → Filling old (set a i x) x (i + 1)
+    pub filling-next : (y : ℕ) → i < length (r .points) → x ≡ max b y
+        → y ≡ taken (resolve z (nearestReading (readingAt d (pointAt z r d i .time)))) → Filling old (set a i x) x (i + 1)
     filling-next y h e q =
         let g : x ≡ instantAt z r d i = e ∙ ap₂ max (f .last) q ∙ sym (instant-next z r d i h) in
         record {
@@ -53,7 +54,8 @@ module _ (z : Zone) (r : Rule) (d : ℕ) where
           last = g ∙ ap (before z r d) (sym (add-one i));
         }
 
-    pub filled : (n y : ℕ) → n ≡ length (r .points) → n ≤ i → x ≡ max b y → y ≡ taken (resolve z (nearestReading (readingAt (suc d) 0))) → set a n x ≡ wrote old 0 (edgeInstants z r d)
+    pub filled : (n y : ℕ) → n ≡ length (r .points) → n ≤ i → x ≡ max b y → y ≡ taken (resolve z (nearestReading (readingAt (suc d) 0)))
+        → set a n x ≡ wrote old 0 (edgeInstants z r d)
     unfolding wrote
     filled n y h k e q =
         let m = f .most in
@@ -84,7 +86,8 @@ module _ (z : Zone) (r : Rule) (d : ℕ) where
   ClearTo calm i = calm ≡ true → (j : ℕ) → j < i → Walking.Clear z d (pointAt z r d j .time)
 
   module _ (calm more : Bool) (i : ℕ) (c : ClearTo calm i) where
-    pub clear-next : (u : Uncertainty) → u ≡ uncertain (resolve z (nearestReading (readingAt d (pointAt z r d i .time)))) Exact → more ≡ isExact u → ClearTo (calm && more) (i + 1)
+    pub clear-next : (u : Uncertainty) → u ≡ uncertain (resolve z (nearestReading (readingAt d (pointAt z r d i .time)))) Exact
+        → more ≡ isExact u → ClearTo (calm && more) (i + 1)
     clear-next u e f q j h =
         let b = and-true calm more q in
         let x : isExact (uncertain (resolve z (nearestReading (readingAt d (pointAt z r d i .time)))) Exact) ≡ true = sym (ap isExact e) ∙ sym f ∙ b .1 in
@@ -94,7 +97,8 @@ module _ (z : Zone) (r : Rule) (d : ℕ) where
         go a k (yes l) = c a j l
         go a k (no l) = let o : j ≡ i = omega arith in rw o k
 
-    pub clear-all : length (r .points) ≤ i → (u : Uncertainty) → u ≡ uncertain (resolve z (nearestReading (readingAt (suc d) 0))) Exact → more ≡ isExact u → (calm && more) ≡ true → Calm z r d
+    pub clear-all : length (r .points) ≤ i → (u : Uncertainty) → u ≡ uncertain (resolve z (nearestReading (readingAt (suc d) 0))) Exact
+        → more ≡ isExact u → (calm && more) ≡ true → Calm z r d
     clear-all l u e f q =
         let b = and-true calm more q in
         let x : isExact (uncertain (resolve z (nearestReading (readingAt (suc d) 0))) Exact) ≡ true = sym (ap isExact e) ∙ sym f ∙ b .1 in

@@ -124,7 +124,8 @@ rest-length {v = v} {turns = turns} {cursor = cursor} few b hi =
     rw (b .all hi) (walk-length v few hi (suc turns) cursor)
 
 -- the rules of a book have few points
-pub rules-few : (s : List ℕ) (rules : List ℕ) → AllListed 3 s rules → (d : ℕ) (r : Rule) → governing (map (ruleAt s) rules) d ≡ some r → length (r .points) ≤ base .points
+pub rules-few : (s : List ℕ) (rules : List ℕ) → AllListed 3 s rules → (d : ℕ) (r : Rule) → governing (map (ruleAt s) rules) d ≡ some r
+    → length (r .points) ≤ base .points
 rules-few s rules listed d r e =
     let g = governs (map (ruleAt s) rules) d r e in
     go rules (g .place) listed (g .listed)

@@ -39,7 +39,8 @@ module _ (s : List ℕ) (z : Zone) (q : Piece) where
         ∙ sym (ap (λ (c : Bool). doubt (cond c (record { date = q .date .0; time = pointOf s q (q .point + 1) .time; at = q .end .0 }) (record { date = suc (q .date .0); time = 0; at = q .end .0 })))
         (lt-ltb (q .point + 1) many h))
 
-  pub by-midnight : (b : Boundary) (u : Uncertainty) → u ≡ says → many ≤ q .point + 1 → b ≡ boundaryAt z (suc (q .date .0)) 0 u → b .uncertainty ≡ doubt (endEdge s q)
+  pub by-midnight : (b : Boundary) (u : Uncertainty) → u ≡ says → many ≤ q .point + 1 → b ≡ boundaryAt z (suc (q .date .0)) 0 u
+      → b .uncertainty ≡ doubt (endEdge s q)
   by-midnight b u p h f =
       ap (λ (c : Boundary). c .uncertainty) (f ∙ ap (boundaryAt z (suc (q .date .0)) 0) p)
       ∙ sym (ap (λ (c : Bool). doubt (cond c (record { date = q .date .0; time = pointOf s q (q .point + 1) .time; at = q .end .0 }) (record { date = suc (q .date .0); time = 0; at = q .end .0 })))

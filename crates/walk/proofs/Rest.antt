@@ -55,7 +55,8 @@ module _ (z : Zone) (r : Rule) (d cursor hi : ℕ) where
   at-edge : (k : ℕ) → edgeAt z r d k .at ≡ at k
   at-edge k = sym (List·getD-map (λ (e : Edge). e .at) (ruleEdges z r d) k nowhere)
 
-  one : (k : ℕ) → k < length (r .points) → clip cursor hi (left z r d k) ≡ keep (max cursor (at k)) (min hi (at (suc k))) (bodyAt k) (clip cursor hi (left z r d (suc k)))
+  one : (k : ℕ) → k < length (r .points)
+      → clip cursor hi (left z r d k) ≡ keep (max cursor (at k)) (min hi (at (suc k))) (bodyAt k) (clip cursor hi (left z r d (suc k)))
   one k h =
       ap (clip cursor hi) (left-one z r d k h)
       ∙ clip-keep (edgeAt z r d k .at) (edgeAt z r d (suc k) .at) (bodyAt k) (left z r d (suc k)) cursor hi
@@ -285,7 +286,8 @@ module _ (v : Venue Held) (hi turns began cursor date next : ℕ) (e : next ≡ 
 pub kept-nothing : (s : List ℕ) (z : Zone) (d : ℕ) (calm : Bool) (a : List ℕ) {o : Governed} → o ≡ Nothing → Kept s z d 0 calm o a
 kept-nothing s z d calm a e = subst (λ (g : Governed). Kept s z d 0 calm g a) (sym e) tt
 
-pub kept-rule : (s : List ℕ) (z : Zone) (d : ℕ) (a old : List ℕ) (p : ℕ) {o : Governed} → o ≡ By p → Listed 3 s p → a ≡ wrote old 0 (edgeInstants z (ruleAt s p) d) → {calm : Bool}
+pub kept-rule : (s : List ℕ) (z : Zone) (d : ℕ) (a old : List ℕ) (p : ℕ) {o : Governed} → o ≡ By p → Listed 3 s p
+    → a ≡ wrote old 0 (edgeInstants z (ruleAt s p) d) → {calm : Bool}
     → (calm ≡ true → Calm z (ruleAt s p) d) → Kept s z d 0 calm o a
 unfolding wrote
 kept-rule s z d a old p e h w {calm} f =
@@ -323,6 +325,7 @@ module _ (s : List ℕ) (z : Zone) (g : ℕ → Option Rule) (t : ℕ) (c : Inst
             ∙ sym (turn-any (venueBy z g) hi t (c .0));
       }
 
-pub nothing-shows : (s : List ℕ) (z : Zone) (hi : ℕ) (w : Walk) → w .governed ≡ Nothing → clip (w .cursor .0) hi (onDate s z (w .date .0) (w .next) (w .governed)) ≡ []
+pub nothing-shows : (s : List ℕ) (z : Zone) (hi : ℕ) (w : Walk) → w .governed ≡ Nothing
+    → clip (w .cursor .0) hi (onDate s z (w .date .0) (w .next) (w .governed)) ≡ []
 unfolding clip
 nothing-shows s z hi w e = ap (λ (g : Governed). clip (w .cursor .0) hi (onDate s z (w .date .0) (w .next) g)) e

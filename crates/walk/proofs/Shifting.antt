@@ -100,8 +100,10 @@ pub record Shifting (r : Rule) (m : ℕ) (old a : List ℕ) (b i : ℕ) : Type 0
 pub shifting-none : (r : Rule) (m : ℕ) (old : List ℕ) → Shifting r m old old 0 0
 shifting-none r m old = record { long = refl; most = omega arith; filling = λ z d g. filling-none z r d old }
 
-module _ (r : Rule) (m : ℕ) (old a : List ℕ) (b i x : ℕ) (s : Shifting r m old a b i) (l : length (r .points) < length old) (k : 1 ≤ length (r .points)) where
-  pub shifting-next : (y : ℕ) → i < length (r .points) → (y ≡ getD (r .points) i Reading.midnight .time) × (y < dayNs) → x ≡ max b (m + y) → Shifting r m old (set a i x) x (i + 1)
+module _ (r : Rule) (m : ℕ) (old a : List ℕ) (b i x : ℕ) (s : Shifting r m old a b i) (l : length (r .points) < length old)
+    (k : 1 ≤ length (r .points)) where
+  pub shifting-next : (y : ℕ) → i < length (r .points) → (y ≡ getD (r .points) i Reading.midnight .time) × (y < dayNs) → x ≡ max b (m + y)
+      → Shifting r m old (set a i x) x (i + 1)
   shifting-next y h t e =
       record {
         long = length-set a i x ∙ s .long;
@@ -111,5 +113,6 @@ module _ (r : Rule) (m : ℕ) (old a : List ℕ) (b i x : ℕ) (s : Shifting r m
             (sym (ap (λ (q : Boundary). q .at .0) (g .times y Exact (omega (arith, t .1)))) ∙ ap (λ (q : ℕ). taken (resolve z (nearestReading (readingAt d q)))) (t .0));
       }
 
-  pub shifted : (n : ℕ) → n ≡ length (r .points) → n ≤ i → x ≡ max b (m + dayNs) → (z : Zone) (d : ℕ) → Shifts z d m → set a n x ≡ wrote old 0 (edgeInstants z r d)
+  pub shifted : (n : ℕ) → n ≡ length (r .points) → n ≤ i → x ≡ max b (m + dayNs) → (z : Zone) (d : ℕ) → Shifts z d m
+      → set a n x ≡ wrote old 0 (edgeInstants z r d)
   shifted n h j e z d g = filled z r d old a b i x (s .filling z d g) l k n (m + dayNs) h j e (sym (ap (λ (q : Boundary). q .at .0) (g .next Exact)))

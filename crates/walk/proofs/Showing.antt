@@ -15,7 +15,8 @@ pub record Hidden (a : List ℕ) (k n cursor hi i : ℕ) : Type 0 where
 pub hidden-none : (a : List ℕ) (k n cursor hi : ℕ) → k ≤ n → Hidden a k n cursor hi k
 hidden-none a k n cursor hi h = record { from = omega arith; most = h; hidden = λ j x y. absurd (omega arith) }
 
-pub hidden-next : (a : List ℕ) (k n cursor hi i : ℕ) → Hidden a k n cursor hi i → i < n → min hi (getD a (i + 1) 0) ≤ max cursor (getD a i 0) → Hidden a k n cursor hi (i + 1)
+pub hidden-next : (a : List ℕ) (k n cursor hi i : ℕ) → Hidden a k n cursor hi i → i < n → min hi (getD a (i + 1) 0) ≤ max cursor (getD a i 0)
+    → Hidden a k n cursor hi (i + 1)
 hidden-next a k n cursor hi i f h l =
     let b = f .from in
     record { from = omega arith; most = omega arith; hidden = λ j x y. go j x y (decLt j i) }

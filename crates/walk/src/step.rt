@@ -63,7 +63,8 @@ fn onward(
     date: Day,
 ) -> Instant
     requires { ⌜ Valid first (now ats) (now offsets) ⌝ }
-    ensures { λ r. ⌜ r .0 ≡ Walking·onward (venueBy (zoneOf first (now (ats .entry)) (now (offsets .entry))) (λ x. none)) (hi .0) (began .0) (cursor .0) (date .0) ⌝ }
+    ensures { λ r. ⌜ r .0
+        ≡ Walking·onward (venueBy (zoneOf first (now (ats .entry)) (now (offsets .entry))) (λ x. none)) (hi .0) (began .0) (cursor .0) (date .0) ⌝ }
 {
     if began.0 < cursor.0 {
         return cursor;
@@ -123,7 +124,8 @@ pub fn turn_on(
     requires { ⌜ Valid first (now ats) (now offsets) × AllListed 3 (now book) (now rules) × Keeps (now book) (now rules) (now kept)
         × Shown (now book) (zoneOf first (now ats) (now offsets)) (hi .0) w ⌝ }
     ensures { λ r. ⌜ Leads (now (book .entry)) (zoneOf first (now (ats .entry)) (now (offsets .entry)))
-        (venueBy (zoneOf first (now (ats .entry)) (now (offsets .entry))) (Governing·governing (map (ruleAt (now (book .entry))) (now (rules .entry))))) (hi .0) w r (now (edges .exit))
+        (venueBy (zoneOf first (now (ats .entry)) (now (offsets .entry)))
+        (Governing·governing (map (ruleAt (now (book .entry))) (now (rules .entry))))) (hi .0) w r (now (edges .exit))
         × Keeps (now (book .entry)) (now (rules .entry)) (now (kept .exit)) ⌝ }
 {
     let turns = w.turns;

@@ -60,7 +60,8 @@ fn boundaries(
     edges: &mut [u64],
 ) -> bool
     requires { ⌜ Valid first (now ats) (now offsets) × Listed 3 (now book) rule × (base .points < length (now edges)) ⌝ }
-    ensures { λ r. ⌜ (now (edges .exit) ≡ wrote (now (edges .entry)) 0 (edgeInstants (zoneOf first (now (ats .entry)) (now (offsets .entry))) (ruleAt (now (book .entry)) rule) (d .0)))
+    ensures { λ r. ⌜ (now (edges .exit) ≡ wrote (now (edges .entry)) 0
+        (edgeInstants (zoneOf first (now (ats .entry)) (now (offsets .entry))) (ruleAt (now (book .entry)) rule) (d .0)))
         × (r ≡ true → Calm (zoneOf first (now (ats .entry)) (now (offsets .entry))) (ruleAt (now (book .entry)) rule) (d .0)) ⌝ }
 {
     let place = rule as usize;
@@ -102,8 +103,10 @@ fn date_boundaries(
     d: Day,
     edges: &mut [u64],
 ) -> bool
-    requires { ⌜ Valid first (now ats) (now offsets) × Listed 3 (now book) rule × (base .points < length (now edges)) × SteadyOn (zoneOf first (now ats) (now offsets)) steady (d .0) ⌝ }
-    ensures { λ r. ⌜ (now (edges .exit) ≡ wrote (now (edges .entry)) 0 (edgeInstants (zoneOf first (now (ats .entry)) (now (offsets .entry))) (ruleAt (now (book .entry)) rule) (d .0)))
+    requires { ⌜ Valid first (now ats) (now offsets) × Listed 3 (now book) rule × (base .points < length (now edges))
+        × SteadyOn (zoneOf first (now ats) (now offsets)) steady (d .0) ⌝ }
+    ensures { λ r. ⌜ (now (edges .exit) ≡ wrote (now (edges .entry)) 0
+        (edgeInstants (zoneOf first (now (ats .entry)) (now (offsets .entry))) (ruleAt (now (book .entry)) rule) (d .0)))
         × (r ≡ true → Calm (zoneOf first (now (ats .entry)) (now (offsets .entry))) (ruleAt (now (book .entry)) rule) (d .0)) ⌝ }
 {
     match steady {
@@ -140,7 +143,8 @@ pub fn begin(
 ) -> Walk
     requires { ⌜ Valid first (now ats) (now offsets) × AllListed 3 (now book) (now rules) × Keeps (now book) (now rules) (now kept) ⌝ }
     ensures { λ r. ⌜ Begun (now (book .entry)) (zoneOf first (now (ats .entry)) (now (offsets .entry)))
-        (venueBy (zoneOf first (now (ats .entry)) (now (offsets .entry))) (Governing·governing (map (ruleAt (now (book .entry))) (now (rules .entry))))) turns (cursor .0) r (now (edges .exit))
+        (venueBy (zoneOf first (now (ats .entry)) (now (offsets .entry)))
+        (Governing·governing (map (ruleAt (now (book .entry))) (now (rules .entry))))) turns (cursor .0) r (now (edges .exit))
         × Keeps (now (book .entry)) (now (rules .entry)) (now (kept .exit)) ⌝ }
 {
     let steady = steady_offset(first, ats, offsets, cursor, cursor);

@@ -216,7 +216,8 @@ module _ (w : Width) where
       let z : 2 ^ bits w - 1 - (2 ^ bits w - suc n) ≡ n = omega (arith, pow-bits w) in
       (n, rw z (toZ-pos w n h), h, refl)
 
-  pub natural : (z : ℤ) → SFits w z → ltZ (toZ w (ofZ w z)) (pos 0) ≡ false → (n : ℕ) × (toZ w (ofZ w z) ≡ pos n) × (n < half w) × (placed w z ≡ n + half w)
+  pub natural : (z : ℤ) → SFits w z → ltZ (toZ w (ofZ w z)) (pos 0) ≡ false
+      → (n : ℕ) × (toZ w (ofZ w z) ≡ pos n) × (n < half w) × (placed w z ≡ n + half w)
   unfolding placed
   natural (pos a) f e = (a, toZ-ofZ w (pos a) f, f .sfits, refl)
   natural (negsuc n) f e =

@@ -98,7 +98,8 @@ sets-append [] ws l i = rw add-zero
 sets-append (v ∷ vs) ws l i = rw (add-suc, ← suc-add) (sets-append vs ws (set l i v) (suc i))
 
 -- a write right behind a write is one write of both
-pub wrote-wrote : (l : List ℕ) (at n : ℕ) (vs ws : List ℕ) → n ≡ at + length vs → Inside n (length ws) l → wrote (wrote l at vs) n ws ≡ wrote l at (vs ++ ws)
+pub wrote-wrote : (l : List ℕ) (at n : ℕ) (vs ws : List ℕ) → n ≡ at + length vs → Inside n (length ws) l
+    → wrote (wrote l at vs) n ws ≡ wrote l at (vs ++ ws)
 unfolding wrote
 wrote-wrote l at n vs ws q p =
     let h : at + length vs ≤ length l = omega arith in
@@ -111,7 +112,8 @@ wrote-wrote l at n vs ws q p =
     ∙ sets-eq (vs ++ ws) l at j
 
 -- a write right before a write is one write of both
-pub wrote-in-front : (l : List ℕ) (at n : ℕ) (vs ws : List ℕ) → n ≡ at + length vs → Inside n (length ws) l → wrote (wrote l n ws) at vs ≡ wrote l at (vs ++ ws)
+pub wrote-in-front : (l : List ℕ) (at n : ℕ) (vs ws : List ℕ) → n ≡ at + length vs → Inside n (length ws) l
+    → wrote (wrote l n ws) at vs ≡ wrote l at (vs ++ ws)
 unfolding wrote
 wrote-in-front l at n vs ws q p =
     let rest = drop (n + length ws) l in
@@ -202,7 +204,8 @@ also {a} {b} {c} {v} {w} {p} {q} {r} {n} {m} k x y e h =
     }
 
 -- a number's lower half and then its upper half, each of n bytes
-pub halves : (n : ℕ) {a b c : List ℕ} {p q r : ℕ} (x : ℕ) → Put a p (bytes n (x % 256 ^ n)) n b q → Put b q (bytes n (x / 256 ^ n)) n c r → Inside p (n + n) a
+pub halves : (n : ℕ) {a b c : List ℕ} {p q r : ℕ} (x : ℕ) → Put a p (bytes n (x % 256 ^ n)) n b q → Put b q (bytes n (x / 256 ^ n)) n c r
+    → Inside p (n + n) a
     → Put a p (bytes (n + n) x) (n + n) c r
 halves n x low high h = rw (bytes-split n n x, ← (bytes-low n x)) (also (n + n) low high refl h)
 

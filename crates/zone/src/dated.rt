@@ -25,7 +25,8 @@ fn reads_changes(
     to: Instant,
 ) -> bool
     requires { ⌜ Valid first (now ats) (now offsets) ⌝ }
-    ensures { λ r. ⌜ r ≡ readsChanges (zoneOf first (now (ats .entry)) (now (offsets .entry))) (d .0) (from .0) (to .0) (changesOf (now (ats .entry)) (now (offsets .entry))) ⌝ }
+    ensures { λ r. ⌜ r ≡ readsChanges (zoneOf first (now (ats .entry)) (now (offsets .entry))) (d .0) (from .0) (to .0)
+        (changesOf (now (ats .entry)) (now (offsets .entry))) ⌝ }
 {
     let mut k = passed(ats, from.0);
     while k < ats.len() {

@@ -37,7 +37,8 @@ frame-at : (c : At tie.Else3) → let l = c .before .before .before in Framed (b
 frame-at c = framed _ _ (sym (c .before .bad-frame .ensures) ∙ c .if3 .left)
 
 -- and whose kind was read
-known-at : (c : At tie.After-get22) → let l = c .before .before .before .before .before in Known (bookIn l) (l .records .at) (l .records .t) (c .get22 .result)
+known-at : (c : At tie.After-get22)
+    → let l = c .before .before .before .before .before in Known (bookIn l) (l .records .at) (l .records .t) (c .get22 .result)
 known-at c =
     let at-bad-frame = c .before .before .before in
     known (at-bad-frame .before .before .records .inv) (at-bad-frame .before .if2 .left)
@@ -54,7 +55,8 @@ in-range : (c : At tie.Else6) → badFields base (r (known-at (c .before .before
 in-range c = sym (c .before .bad-fields .ensures) ∙ c .if6 .left
 
 -- a transition
-transition-room : (c : At tie.Then7) → let l = c .before .before .before .before .before .before .before .before .before .before .before .before in l .records .at + 16 ≤ length (bookIn l)
+transition-room : (c : At tie.Then7)
+    → let l = c .before .before .before .before .before .before .before .before .before .before .before .before in l .records .at + 16 ≤ length (bookIn l)
 transition-room c = let n = known-at (c .before .before .before .before .before .before .before) in room2 _ _ _ (n .frame) (n .kind) (c .if7 .taken)
 
 -- a record whose points or times are being looked at: every type that follows from it is written by these short paths

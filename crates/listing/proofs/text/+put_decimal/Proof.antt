@@ -34,7 +34,8 @@ At t it = it (put-digit.Asked, put-digit.Learnt, put-decimal-below t, put-decima
 more : {t : ℕ} (c : At t places.Else1) → let n = c .before .before .args .n in decimal n ≡ decimal (n / 10) ++ (digit (n % 10) ∷ [])
 more c = decimal-more (c .before .before .args .n) (omega (arith, c .if1 .left))
 
-fits : {t : ℕ} (c : At t places.Else1) → let args = c .before .before .args in Fits (args .at) (decimal (args .n / 10) ++ (digit (args .n % 10) ∷ [])) (args .out .now)
+fits : {t : ℕ} (c : At t places.Else1)
+    → let args = c .before .before .args in Fits (args .at) (decimal (args .n / 10) ++ (digit (args .n % 10) ∷ [])) (args .out .now)
 fits c = rw (more c) at (c .before .before .pre .1)
 
 put-digit-requires : (t : ℕ) → At t places.Need-put-digit-requires

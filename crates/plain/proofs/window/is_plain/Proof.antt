@@ -26,7 +26,8 @@ abbrev rulesIn : tie.After-day-at → ℕ → Option Rule
 rulesIn c = governing (map (ruleAt (entry c .args .book .now)) (entry c .args .rules .now))
 
 -- the midnight of the date
-begins : (c : tie.After-to-utc-at) → let at-day-at = c .before .before in c .to-utc-at .result .at .0 ≡ takenAt (zoneIn at-day-at) (at-day-at .day-at .result .0) 0
+begins : (c : tie.After-to-utc-at)
+    → let at-day-at = c .before .before in c .to-utc-at .result .at .0 ≡ takenAt (zoneIn at-day-at) (at-day-at .day-at .result .0) 0
 begins c = ap (λ (b : Boundary). b .at .0) (c .to-utc-at .ensures)
 
 returns : tie.Need-returns

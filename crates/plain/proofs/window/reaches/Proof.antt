@@ -50,7 +50,8 @@ dateIn c = entry c .args .d .0 + c .loop .n
 plain : (c : At tie.Else1) → let l = c .before .before .before .before in true ≡ plainDate (zoneIn (entry l)) (rulesIn (entry l)) (dateIn l)
 plain c = sym (not-false (c .before .is-plain-date .result) (c .if1 .left)) ∙ c .before .is-plain-date .ensures
 
-midnight : (c : At tie.After-to-utc-at) → let l = c .before .before .before .before .before in c .to-utc-at .result .at .0 ≡ takenAt (zoneIn (entry l)) (dateIn l) 0
+midnight : (c : At tie.After-to-utc-at)
+    → let l = c .before .before .before .before .before in c .to-utc-at .result .at .0 ≡ takenAt (zoneIn (entry l)) (dateIn l) 0
 midnight c = ap (λ (b : Boundary). b .at .0) (c .to-utc-at .ensures)
 
 loop-holds : At tie.Need-loop-holds
