@@ -56,7 +56,8 @@ in-range c = sym (c .before .bad-fields .ensures) ∙ c .if6 .left
 
 -- a transition
 transition-room : (c : At tie.Then7)
-    → let l = c .before .before .before .before .before .before .before .before .before .before .before .before in l .records .at + 16 ≤ length (bookIn l)
+    → let l = c .before .before .before .before .before .before .before .before .before .before .before .before in
+    l .records .at + 16 ≤ length (bookIn l)
 transition-room c = let n = known-at (c .before .before .before .before .before .before .before) in room2 _ _ _ (n .frame) (n .kind) (c .if7 .taken)
 
 -- a record whose points or times are being looked at: every type that follows from it is written by these short paths

@@ -95,7 +95,8 @@ abbrev ready : At tie.In-loop2 → At tie.After-raised2
 ready c = c .before .before
 
 within2 : (c : At tie.In-loop2)
-    → let p = counted2 (ready c) in (c .before .loop2 .k < points p) × (points p ≡ length (ruleIn p .points)) × (points p ≤ 16) × (length (stored (ready c)) ≡ 17)
+    → let p = counted2 (ready c) in
+    (c .before .loop2 .k < points p) × (points p ≡ length (ruleIn p .points)) × (points p ≤ 16) × (length (stored (ready c)) ≡ 17)
 within2 c =
     let p = counted2 (ready c) in
     (c .loop2-test .taken, p .rule-points .ensures .0, p .rule-points .ensures .2, all (ready c) .filled .long)

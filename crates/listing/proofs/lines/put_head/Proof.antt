@@ -13,12 +13,14 @@ entry c = c .before .before .before .before
 
 -- behind each part of the line the others fit
 behind-word : (c : tie.After-put-word)
-    → let args = entry c .args in Fits (c .put-word .result) (fields (decimal (args .number) ∷ decimal (args .count) ∷ [])) (c .put-word .last .0)
+    → let args = entry c .args in
+    Fits (c .put-word .result) (fields (decimal (args .number) ∷ decimal (args .count) ∷ [])) (c .put-word .last .0)
 unfolding headLine
 behind-word c = rest (entry c .pre) (c .put-word .ensures)
 
 behind-number : (c : tie.After-put-number)
-    → let args = entry (c .before .before .before .before) .args in Fits (c .put-number .result) (fields (decimal (args .count) ∷ [])) (c .put-number .last .0)
+    → let args = entry (c .before .before .before .before) .args in
+    Fits (c .put-number .result) (fields (decimal (args .count) ∷ [])) (c .put-number .last .0)
 unfolding headLine
 behind-number c = rest (behind-word (c .before .before .before .before)) (c .put-number .ensures)
 
