@@ -8,7 +8,7 @@ use lib.Seq.{take-at}
 use Rattle.wire.specs.Fields.{Inside, Put, bytes, wrote}
 use Rattle.wire.proofs.Writing.{wrote-wrote, wrote-over, wrote-again}
 use Rattle.answer.specs.Forms as Forms
-use Rattle.answer.specs.Forms.{phase, encode}
+use Rattle.answer.specs.Forms.{phase, encode, phaseKind, phaseLength, phaseSize, toPlace}
 use Rattle.answer.specs.Meaning.{phaseOf}
 use Rattle.answer.specs.Amending.{front, Amends}
 use Rattle.answer.specs.declared.Phase.{Phase}
@@ -17,7 +17,7 @@ use Rattle.answer.proofs.Chain.{signed8, head, doubt, side, phase-bytes
 -- ---- a phase's bytes: 12 before its end, 35 from there to its second boundary, and 50 from that on
 
 abbrev first : Forms.Phase → List ℕ
-first p = head 103 16 ++ signed8 (p .start)
+first p = head phaseLength phaseKind ++ signed8 (p .start)
 
 abbrev middle : Forms.Phase → List ℕ
 middle p = (bytes 1 (p .phase) ++ (bytes 1 (p .code) ++ (bytes 2 (p .label) ++ (bytes 2 (p .evidence) ++ bytes 2 (p .derived))))) ++ side (p .from)
@@ -35,20 +35,20 @@ front-parts p = rw (phase-parts p) (take-at (first p ++ (signed8 (p .end) ++ mid
 -- ---- its front stands
 
 -- as it is written
-pub front-bytes : (p : Forms.Phase) → front p ≡ head 103 16 ++ ((signed8 (p .start) ++ signed8 (p .end)) ++ middle p)
+pub front-bytes : (p : Forms.Phase) → front p ≡ head phaseLength phaseKind ++ ((signed8 (p .start) ++ signed8 (p .end)) ++ middle p)
 front-bytes p = front-parts p ∙ simp append-assoc
 
 -- where the whole stands, its front does
-pub front-stands : (p : Forms.Phase) (s : List ℕ) (at : ℕ) → s ≡ wrote s at (encode (phase p)) → Inside at 105 s → s ≡ wrote s at (front p)
+pub front-stands : (p : Forms.Phase) (s : List ℕ) (at : ℕ) → s ≡ wrote s at (encode (phase p)) → Inside at phaseSize s → s ≡ wrote s at (front p)
 unfolding bytes
 front-stands p s at e i =
     let x = front p in
     let whole : s ≡ wrote s at (x ++ back p) = e ∙ ap (wrote s at) (phase-parts p ∙ ap (λ (l : List ℕ). l ++ back p) (sym (front-parts p))) in
-    let long : length (x ++ back p) ≡ 105 = ap (λ (l : List ℕ). length (l ++ back p)) (front-parts p) in
+    let long : length (x ++ back p) ≡ phaseSize = ap (λ (l : List ℕ). length (l ++ back p)) (front-parts p) in
     whole ∙ sym (ap (λ (l : List ℕ). wrote l at x) whole ∙ wrote-over s at at [] x (back p) x (omega arith) refl (omega arith))
 
 -- where it was just written
-pub begun-amends : (p : Phase) {s t : List ℕ} {at r : ℕ} → Put s at (front (phaseOf p)) 55 t r → Inside at 105 s → Amends t at p
+pub begun-amends : (p : Phase) {s t : List ℕ} {at r : ℕ} → Put s at (front (phaseOf p)) (toPlace .from) t r → Inside at phaseSize s → Amends t at p
 begun-amends p {s} {t} {at} w i =
     let x = front (phaseOf p) in
     record {
@@ -77,7 +77,7 @@ over-and-behind at x y z {s} {t} {u} {v} {r} {n} {m} stands fits a b c d e =
 
 pub amended : (p : Phase) {s t u : List ℕ} {at q r : ℕ} → Amends s at p → Put s (at + 12) (signed8 (phaseOf p .end)) 8 t q
     → Put t (at + 55) (back (phaseOf p)) 50 u r
-    → Put s at (encode (phase (phaseOf p))) 105 u r
+    → Put s at (encode (phase (phaseOf p))) phaseSize u r
 unfolding bytes
 amended p {s} {t} {u} {at} a x y =
     let old = phaseOf (a .old) in
@@ -91,9 +91,9 @@ amended p {s} {t} {u} {at} a x y =
     }
 
 -- the front, and then the whole
-pub begun-put : (p : Phase) {s t u : List ℕ} {at q r : ℕ} → Put s at (front (phaseOf p)) 55 t q → Put t at (encode (phase (phaseOf p))) 105 u r
-    → Inside at 105 s
-    → Put s at (encode (phase (phaseOf p))) 105 u r
+pub begun-put : (p : Phase) {s t u : List ℕ} {at q r : ℕ} → Put s at (front (phaseOf p)) (toPlace .from) t q → Put t at (encode (phase (phaseOf p))) phaseSize u r
+    → Inside at phaseSize s
+    → Put s at (encode (phase (phaseOf p))) phaseSize u r
 begun-put p {s} {at = at} a b i =
     let x = encode (phase (phaseOf p)) in
     record {

@@ -18,7 +18,7 @@ use Rattle.calendar.specs.Answers.{zeroDay}
 use Rattle.zone.specs.Units.{dayNs, instantNumber}
 use Rattle.zone.specs.Answers.{Values}
 use Rattle.records.specs.Layout.{Place, kind}
-use Rattle.answer.specs.Forms.{Side, Cover, Phase, Event, Missing, Gap, Totals, phase, unknown, event, point, day, tally, end, missingAt, coverFields, encode}
+use Rattle.answer.specs.Forms.{Side, Cover, Phase, Event, Missing, Gap, Totals, phase, unknown, event, point, day, tally, end, missingAt, coverFields, encode, phaseKind, phaseLength, gapKind, gapLength, eventKind, eventLength, missingKind, missingLength, dayKind, rowLength, tallyKind, rowLength}
 use Rattle.answer.specs.Meaning.{totalsBytes}
 
 -- ---- one writer after another
@@ -63,7 +63,7 @@ side s = signed8 (s .at) ++ doubt (s .uncertainty)
 
 pub phase-bytes : (p : Phase)
     → encode (phase p)
-    ≡ head 103 16
+    ≡ head phaseLength phaseKind
     ++ ((signed8 (p .start) ++ signed8 (p .end))
     ++ ((bytes 1 (p .phase) ++ (bytes 1 (p .code) ++ (bytes 2 (p .label) ++ (bytes 2 (p .evidence) ++ bytes 2 (p .derived)))))
     ++ (side (p .from) ++ (side (p .to) ++ (doubt (p .whole) ++ bytes 4 (p .events))))))
@@ -72,7 +72,7 @@ phase-bytes p = simp (append-assoc, append-nil)
 
 pub event-bytes : (e : Event)
     → encode (event e)
-    ≡ head 33 18 ++ (bytes 2 (e .code) ++ ((signed8 (e .at) ++ doubt (e .uncertainty)) ++ bytes 2 (e .evidence)))
+    ≡ head eventLength eventKind ++ (bytes 2 (e .code) ++ ((signed8 (e .at) ++ doubt (e .uncertainty)) ++ bytes 2 (e .evidence)))
 unfolding encode laid
 event-bytes e = simp (append-assoc, append-nil)
 
@@ -81,17 +81,17 @@ cover-place : (p q : Place) (c : Option Cover) → coverFields p c ≡ coverFiel
 cover-place p q none = refl
 cover-place p q (some c) = refl
 
-pub gap-bytes : (g : Gap) → encode (unknown g) ≡ head 35 17 ++ ((signed8 (g .start) ++ signed8 (g .end)) ++ laid (coverFields kind (g .coverage)))
+pub gap-bytes : (g : Gap) → encode (unknown g) ≡ head gapLength gapKind ++ ((signed8 (g .start) ++ signed8 (g .end)) ++ laid (coverFields kind (g .coverage)))
 unfolding encode laid
 gap-bytes g =
     simp append-assoc
-    (ap (λ (c : List Field). bytes 2 35 ++ (bytes 2 17 ++ (signed8 (g .start) ++ (signed8 (g .end) ++ laid c)))) (cover-place end kind (g .coverage)))
+    (ap (λ (c : List Field). bytes 2 gapLength ++ (bytes 2 gapKind ++ (signed8 (g .start) ++ (signed8 (g .end) ++ laid c)))) (cover-place end kind (g .coverage)))
 
-pub missing-bytes : (m : Missing) → encode (point m) ≡ head 27 19 ++ (signed8 (m .at) ++ laid (coverFields kind (m .coverage)))
+pub missing-bytes : (m : Missing) → encode (point m) ≡ head missingLength missingKind ++ (signed8 (m .at) ++ laid (coverFields kind (m .coverage)))
 unfolding encode laid
 missing-bytes m =
     simp append-assoc
-    (ap (λ (c : List Field). bytes 2 27 ++ (bytes 2 19 ++ (signed8 (m .at) ++ laid c))) (cover-place missingAt kind (m .coverage)))
+    (ap (λ (c : List Field). bytes 2 missingLength ++ (bytes 2 missingKind ++ (signed8 (m .at) ++ laid c))) (cover-place missingAt kind (m .coverage)))
 
 pub nothing-bytes : bytes 1 0 ++ (bytes 8 0 ++ bytes 8 0) ≡ laid (coverFields kind none)
 unfolding laid
@@ -103,11 +103,11 @@ between-bytes s e = simp append-nil
 
 -- ---- totals
 
-pub day-bytes : (t : Totals) → encode (day t) ≡ head 98 22 ++ ((signed8 (t .start) ++ signed8 (t .end)) ++ totalsBytes (t .totals))
+pub day-bytes : (t : Totals) → encode (day t) ≡ head rowLength dayKind ++ ((signed8 (t .start) ++ signed8 (t .end)) ++ totalsBytes (t .totals))
 unfolding encode laid
 day-bytes t = simp append-assoc
 
-pub tally-bytes : (t : Totals) → encode (tally t) ≡ head 98 23 ++ ((signed8 (t .start) ++ signed8 (t .end)) ++ totalsBytes (t .totals))
+pub tally-bytes : (t : Totals) → encode (tally t) ≡ head rowLength tallyKind ++ ((signed8 (t .start) ++ signed8 (t .end)) ++ totalsBytes (t .totals))
 unfolding encode laid
 tally-bytes t = simp append-assoc
 

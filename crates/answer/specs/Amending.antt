@@ -5,18 +5,18 @@ use Prim.Native.Nat.{ℕ}
 use lib.ListN.{take}
 use Rattle.wire.specs.Fields.{Inside, wrote}
 use Rattle.answer.specs.Forms as Forms
-use Rattle.answer.specs.Forms.{phase, encode}
+use Rattle.answer.specs.Forms.{phase, encode, phaseSize, toPlace}
 use Rattle.answer.specs.Meaning.{phaseOf}
 use Rattle.answer.specs.declared.Phase.{Phase}
 
 -- its bytes up to the second boundary
 abbrev pub front : Forms.Phase → List ℕ
-front p = take 55 (encode (phase p))
+front p = take (toPlace .from) (encode (phase p))
 
 -- there is room for p at `at`, and the front of a phase stands there that says what p says, but for its end
 pub record Amends (s : List ℕ) (at : ℕ) (p : Phase) : Type 0 where
   pub old : Phase
-  pub inside : Inside at 105 s
+  pub inside : Inside at phaseSize s
   pub stands : s ≡ wrote s at (front (phaseOf old))
   pub start : old .start ≡ p .start
   pub phase : old .phase ≡ p .phase

@@ -7,7 +7,7 @@ use lib.ListN.{length}
 use mir.Syntax.{w64}
 use mir.Val.{SFits}
 use Rattle.zone.specs.Answers.{Values}
-use Rattle.answer.specs.Forms.{Side, Cover, Phase, Event, Gap, Missing, Totals, Form, phase, unknown, event, point, mark, day, tally}
+use Rattle.answer.specs.Forms.{Side, Cover, Phase, Event, Gap, Missing, Totals, Form, phase, unknown, event, point, mark, day, tally, manyTotals}
 
 -- a day row and a tally have ten totals
 abbrev pub Sized : Form → Type 0
@@ -16,8 +16,8 @@ Sized (unknown g) = Unit {0}
 Sized (event e) = Unit {0}
 Sized (point m) = Unit {0}
 Sized (mark r) = Unit {0}
-Sized (day t) = length (t .totals) ≡ 10
-Sized (tally t) = length (t .totals) ≡ 10
+Sized (day t) = length (t .totals) ≡ manyTotals
+Sized (tally t) = length (t .totals) ≡ manyTotals
 
 -- ---- each number fits its field
 
@@ -70,7 +70,7 @@ pub record FitsMissing (m : Missing) : Type 0 where
 pub record FitsTotals (t : Totals) : Type 0 where
   pub start : SFits w64 (t .start)
   pub end : SFits w64 (t .end)
-  pub ten : length (t .totals) ≡ 10
+  pub ten : length (t .totals) ≡ manyTotals
   pub totals : FitsEach (t .totals)
 
 abbrev pub Fitting : Form → Type 0

@@ -1,5 +1,5 @@
 -- Answers as values, and their bytes: document 01, "Answer forms". Every field stands behind the one before it and is said once. Assumes nothing.
-use Prim.Native.Nat.{ℕ}
+use Prim.Native.Nat.{ℕ, _+_}
 use mathlib.Core.List.{List, [], _∷_, _++_, map}
 use mathlib.Core.Option.{Option, none, some}
 use lib.IntN.{ℤ, pos}
@@ -146,26 +146,89 @@ markRow = then kind 2
 abbrev pub totalPlace : Place
 totalPlace = then end 8
 
--- ---- bytes
+-- ---- kinds, and the length L of what follows it
+
+abbrev pub phaseKind : ℕ
+phaseKind = 16
+
+abbrev pub phaseLength : ℕ
+phaseLength = 103
+
+abbrev pub gapKind : ℕ
+gapKind = 17
+
+abbrev pub gapLength : ℕ
+gapLength = 35
+
+abbrev pub eventKind : ℕ
+eventKind = 18
+
+abbrev pub eventLength : ℕ
+eventLength = 33
+
+abbrev pub missingKind : ℕ
+missingKind = 19
+
+abbrev pub missingLength : ℕ
+missingLength = 27
+
+abbrev pub markKind : ℕ
+markKind = 21
+
+abbrev pub markLength : ℕ
+markLength = 4
+
+abbrev pub dayKind : ℕ
+dayKind = 22
+
+abbrev pub tallyKind : ℕ
+tallyKind = 23
+
+-- of a day row and of a tally, which have so many totals
+abbrev pub rowLength : ℕ
+rowLength = 98
+
+abbrev pub manyTotals : ℕ
+manyTotals = 10
 
 abbrev pub kindOf : Form → ℕ
-kindOf (phase p) = 16
-kindOf (unknown g) = 17
-kindOf (event e) = 18
-kindOf (point m) = 19
-kindOf (mark r) = 21
-kindOf (day t) = 22
-kindOf (tally t) = 23
+kindOf (phase p) = phaseKind
+kindOf (unknown g) = gapKind
+kindOf (event e) = eventKind
+kindOf (point m) = missingKind
+kindOf (mark r) = markKind
+kindOf (day t) = dayKind
+kindOf (tally t) = tallyKind
 
--- the length L of what follows it
 abbrev pub lengthOf : Form → ℕ
-lengthOf (phase p) = 103
-lengthOf (unknown g) = 35
-lengthOf (event e) = 33
-lengthOf (point m) = 27
-lengthOf (mark r) = 4
-lengthOf (day t) = 98
-lengthOf (tally t) = 98
+lengthOf (phase p) = phaseLength
+lengthOf (unknown g) = gapLength
+lengthOf (event e) = eventLength
+lengthOf (point m) = missingLength
+lengthOf (mark r) = markLength
+lengthOf (day t) = rowLength
+lengthOf (tally t) = rowLength
+
+-- all bytes of a record, the length's two included
+abbrev pub phaseSize : ℕ
+phaseSize = size .width + phaseLength
+
+abbrev pub gapSize : ℕ
+gapSize = size .width + gapLength
+
+abbrev pub eventSize : ℕ
+eventSize = size .width + eventLength
+
+abbrev pub missingSize : ℕ
+missingSize = size .width + missingLength
+
+abbrev pub markSize : ℕ
+markSize = size .width + markLength
+
+abbrev pub rowSize : ℕ
+rowSize = size .width + rowLength
+
+-- ---- bytes
 
 abbrev pub uncertaintyFields : Place → Values → List Field → List Field
 uncertaintyFields p u rest =

@@ -1,6 +1,41 @@
 // Answers, written into lent room. Instants and uncertainties are written as document 01's signed numbers.
+mod fields;
 mod put;
 
+pub use fields::CODE;
+pub use fields::COUNT;
+pub use fields::DAY_KIND;
+pub use fields::END;
+pub use fields::EVENT_AT;
+pub use fields::EVENT_CODE;
+pub use fields::EVENT_KIND;
+pub use fields::EVENT_LENGTH;
+pub use fields::EVENT_SIZE;
+pub use fields::EVENT_TAG;
+pub use fields::EVIDENCE;
+pub use fields::FROM_TAG;
+pub use fields::GAP_KIND;
+pub use fields::GAP_LENGTH;
+pub use fields::GAP_SIZE;
+pub use fields::MARK_KIND;
+pub use fields::MARK_LENGTH;
+pub use fields::MARK_SIZE;
+pub use fields::MISSING_KIND;
+pub use fields::MISSING_LENGTH;
+pub use fields::MISSING_SIZE;
+pub use fields::PHASE;
+pub use fields::PHASE_KIND;
+pub use fields::PHASE_LENGTH;
+pub use fields::PHASE_SIZE;
+pub use fields::PRESENT;
+pub use fields::ROW_LENGTH;
+pub use fields::ROW_SIZE;
+pub use fields::START;
+pub use fields::TALLY_KIND;
+pub use fields::TO;
+pub use fields::TO_TAG;
+pub use fields::TOTALS;
+pub use fields::WHOLE_TAG;
 pub use put::amend_phase;
 pub use put::begin_phase;
 pub use put::put_day;
@@ -12,18 +47,6 @@ pub use put::put_tally;
 use zone::Boundary;
 use zone::Instant;
 use zone::Uncertainty;
-
-// Bytes of a record, its own length's two included.
-pub const PHASE_BYTES: usize = 105;
-
-pub const EVENT_BYTES: usize = 35;
-
-pub const GAP_BYTES: usize = 37;
-
-pub const MISSING_BYTES: usize = 29;
-
-// A day row or a closing total.
-pub const ROW_BYTES: usize = 100;
 
 // A phase answer: its span, its rule's numbers, its boundaries, its whole uncertainty and how many events follow.
 pub struct Phase {

@@ -1,6 +1,6 @@
 // One writer for each record. Each answers the place behind what it wrote.
 ghost use mathlib.Core.Path.{_≡_};
-ghost use Prim.Native.Nat.{_*_};
+ghost use Prim.Native.Nat.{_*_, _-_};
 ghost use mathlib.Core.List.{_++_};
 ghost use lib.ListN.{length};
 ghost use mir.Syntax.{w64};
@@ -8,11 +8,13 @@ ghost use mir.Val.{ofZ};
 ghost use Rattle.wire.specs.Fields.{Inside, Put, bytes};
 ghost use Rattle.zone.specs.Units.{instantNumber};
 ghost use Rattle.zone.specs.Answers.{values, uncertaintyBytes};
-ghost use Rattle.answer.specs.Forms.{phase, unknown, event, point, day, tally, encode};
+ghost use Rattle.records.specs.Layout.{headSize};
+ghost use Rattle.answer.specs.Forms.{phase, unknown, event, point, day, tally, encode, phaseSize, gapSize, eventSize, missingSize, rowSize, manyTotals, toPlace};
 ghost use Rattle.answer.specs.Amending.{front, Amends};
 ghost use Rattle.answer.specs.Meaning.{phaseOf, eventOf, coverBytes, missingOf, gapOf, totalsBytes, totalsOf};
 use crate::Covered;
 use crate::Phase;
+use crate::fields::*;
 use wire::HALF8;
 use wire::put1;
 use wire::put2;
@@ -25,11 +27,6 @@ use zone::Uncertainty;
 
 // 2^64 less the nanoseconds from 1899-12-25 to 1970.
 const FROM_1970: u64 = INSTANT_ZERO + HALF8;
-
-// Where a phase's end and its second boundary stand, counted from its first byte.
-const END: usize = 12;
-
-const TO: usize = 55;
 
 // The bits of an instant's number.
 fn bits(t: Instant) -> u64
@@ -157,23 +154,23 @@ fn put_rule(
     put2(out, d, derived)
 }
 
-// The first 55 bytes of kind 16: its head, its ends, its rule's numbers and its first boundary.
+// Kind 16 up to its second boundary: its head, its ends, its rule's numbers and its first boundary.
 pub fn begin_phase(out: &mut [u8], at: usize, p: Phase) -> usize
-    requires { ⌜ Inside at 55 (now out) ⌝ }
-    ensures { λ r. ⌜ Put (now (out .entry)) at (front (phaseOf p)) 55 (now (out .exit)) r ⌝ }
+    requires { ⌜ Inside at (toPlace .from) (now out) ⌝ }
+    ensures { λ r. ⌜ Put (now (out .entry)) at (front (phaseOf p)) (toPlace .from) (now (out .exit)) r ⌝ }
 {
     let from = p.from;
-    let a = put_head(out, at, 103, 16);
+    let a = put_head(out, at, PHASE_LENGTH, PHASE_KIND);
     let b = put_span(out, a, p.start, p.end);
     let c = put_rule(out, b, p.phase, p.code, p.label, p.evidence, p.derived);
     put_boundary(out, c, from)
 }
 
-// Kind 16 where its first 55 bytes stand, but for its end: what a span alters that joins it, its end, its second boundary, its whole uncertainty
+// Kind 16 where it stands up to its second boundary, but for its end: what a span alters that joins it, its end, its second boundary, its whole uncertainty
 // and its events.
 pub fn amend_phase(out: &mut [u8], at: usize, p: Phase) -> usize
     requires { ⌜ Amends (now out) at p ⌝ }
-    ensures { λ r. ⌜ Put (now (out .entry)) at (encode (phase (phaseOf p))) 105 (now (out .exit)) r ⌝ }
+    ensures { λ r. ⌜ Put (now (out .entry)) at (encode (phase (phaseOf p))) phaseSize (now (out .exit)) r ⌝ }
 {
     let to = p.to;
     let whole = p.whole;
@@ -185,8 +182,8 @@ pub fn amend_phase(out: &mut [u8], at: usize, p: Phase) -> usize
 
 // Kind 16.
 pub fn put_phase(out: &mut [u8], at: usize, p: Phase) -> usize
-    requires { ⌜ Inside at 105 (now out) ⌝ }
-    ensures { λ r. ⌜ Put (now (out .entry)) at (encode (phase (phaseOf p))) 105 (now (out .exit)) r ⌝ }
+    requires { ⌜ Inside at phaseSize (now out) ⌝ }
+    ensures { λ r. ⌜ Put (now (out .entry)) at (encode (phase (phaseOf p))) phaseSize (now (out .exit)) r ⌝ }
 {
     begin_phase(out, at, p);
     amend_phase(out, at, p)
@@ -194,10 +191,10 @@ pub fn put_phase(out: &mut [u8], at: usize, p: Phase) -> usize
 
 // Kind 18.
 pub fn put_event(out: &mut [u8], at: usize, code: u16, b: Boundary, evidence: u16) -> usize
-    requires { ⌜ Inside at 35 (now out) ⌝ }
-    ensures { λ r. ⌜ Put (now (out .entry)) at (encode (event (eventOf code b evidence))) 35 (now (out .exit)) r ⌝ }
+    requires { ⌜ Inside at eventSize (now out) ⌝ }
+    ensures { λ r. ⌜ Put (now (out .entry)) at (encode (event (eventOf code b evidence))) eventSize (now (out .exit)) r ⌝ }
 {
-    let c = put_head(out, at, 33, 18);
+    let c = put_head(out, at, EVENT_LENGTH, EVENT_KIND);
     let d = put2(out, c, code);
     let e = put_boundary(out, d, b);
     put2(out, e, evidence)
@@ -223,20 +220,20 @@ fn put_cover(out: &mut [u8], at: usize, c: Covered) -> usize
 
 // Kind 17.
 pub fn put_gap(out: &mut [u8], at: usize, start: Instant, end: Instant, c: Covered) -> usize
-    requires { ⌜ Inside at 37 (now out) ⌝ }
-    ensures { λ r. ⌜ Put (now (out .entry)) at (encode (unknown (gapOf (start .0) (end .0) c))) 37 (now (out .exit)) r ⌝ }
+    requires { ⌜ Inside at gapSize (now out) ⌝ }
+    ensures { λ r. ⌜ Put (now (out .entry)) at (encode (unknown (gapOf (start .0) (end .0) c))) gapSize (now (out .exit)) r ⌝ }
 {
-    let a = put_head(out, at, 35, 17);
+    let a = put_head(out, at, GAP_LENGTH, GAP_KIND);
     let b = put_span(out, a, start, end);
     put_cover(out, b, c)
 }
 
 // Kind 19.
 pub fn put_missing(out: &mut [u8], at: usize, t: Instant, c: Covered) -> usize
-    requires { ⌜ Inside at 29 (now out) ⌝ }
-    ensures { λ r. ⌜ Put (now (out .entry)) at (encode (point (missingOf (t .0) c))) 29 (now (out .exit)) r ⌝ }
+    requires { ⌜ Inside at missingSize (now out) ⌝ }
+    ensures { λ r. ⌜ Put (now (out .entry)) at (encode (point (missingOf (t .0) c))) missingSize (now (out .exit)) r ⌝ }
 {
-    let a = put_head(out, at, 27, 19);
+    let a = put_head(out, at, MISSING_LENGTH, MISSING_KIND);
     let b = put_instant(out, a, t);
     put_cover(out, b, c)
 }
@@ -257,10 +254,10 @@ fn put_each(out: &mut [u8], at: usize, totals: &[u64]) -> usize
 
 // A row's edges and its totals, of which there are ten.
 fn put_row(out: &mut [u8], at: usize, start: Instant, end: Instant, totals: &[u64]) -> usize
-    requires { ⌜ (length (now totals) ≡ 10) × Inside at 96 (now out) ⌝ }
+    requires { ⌜ (length (now totals) ≡ manyTotals) × Inside at (rowSize - headSize) (now out) ⌝ }
     ensures { λ r. ⌜ Put (now (out .entry)) at
         ((bytes 8 (ofZ w64 (instantNumber (start .0))) ++ bytes 8 (ofZ w64 (instantNumber (end .0)))) ++ totalsBytes (now (totals .entry)))
-        96 (now (out .exit)) r ⌝ }
+        (rowSize - headSize) (now (out .exit)) r ⌝ }
 {
     let a = put_span(out, at, start, end);
     put_each(out, a, totals)
@@ -268,18 +265,18 @@ fn put_row(out: &mut [u8], at: usize, start: Instant, end: Instant, totals: &[u6
 
 // Kind 22.
 pub fn put_day(out: &mut [u8], at: usize, start: Instant, end: Instant, totals: &[u64]) -> usize
-    requires { ⌜ (length (now totals) ≡ 10) × Inside at 100 (now out) ⌝ }
-    ensures { λ r. ⌜ Put (now (out .entry)) at (encode (day (totalsOf (start .0) (end .0) (now (totals .entry))))) 100 (now (out .exit)) r ⌝ }
+    requires { ⌜ (length (now totals) ≡ manyTotals) × Inside at rowSize (now out) ⌝ }
+    ensures { λ r. ⌜ Put (now (out .entry)) at (encode (day (totalsOf (start .0) (end .0) (now (totals .entry))))) rowSize (now (out .exit)) r ⌝ }
 {
-    let a = put_head(out, at, 98, 22);
+    let a = put_head(out, at, ROW_LENGTH, DAY_KIND);
     put_row(out, a, start, end, totals)
 }
 
 // Kind 23.
 pub fn put_tally(out: &mut [u8], at: usize, start: Instant, end: Instant, totals: &[u64]) -> usize
-    requires { ⌜ (length (now totals) ≡ 10) × Inside at 100 (now out) ⌝ }
-    ensures { λ r. ⌜ Put (now (out .entry)) at (encode (tally (totalsOf (start .0) (end .0) (now (totals .entry))))) 100 (now (out .exit)) r ⌝ }
+    requires { ⌜ (length (now totals) ≡ manyTotals) × Inside at rowSize (now out) ⌝ }
+    ensures { λ r. ⌜ Put (now (out .entry)) at (encode (tally (totalsOf (start .0) (end .0) (now (totals .entry))))) rowSize (now (out .exit)) r ⌝ }
 {
-    let a = put_head(out, at, 98, 23);
+    let a = put_head(out, at, ROW_LENGTH, TALLY_KIND);
     put_row(out, a, start, end, totals)
 }

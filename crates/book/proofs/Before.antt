@@ -15,7 +15,7 @@ use Rattle.wire.specs.Signs.{half, meant, turned}
 use Rattle.wire.proofs.Signs.{order-lt, meant-sum}
 use Rattle.book.specs.declared.judge.Seen.{Seen}
 use Rattle.zone.specs.Units.{dayNs}
-use Rattle.records.specs.Layout.{number, time, step, transitionInstant}
+use Rattle.records.specs.Layout.{number, time, step, transitionInstant, coverageKind, transitionKind, ruleKind, eventKind, isRule}
 use Rattle.records.specs.Limits.{base}
 use Rattle.records.specs.Records.{Coverage, Transition, Rule, Event, Record, coverage, transition, rule, event, coverageAt, transitionAt, ruleAt, eventAt, recordAt, kindOf}
 use Rattle.records.specs.Book.{inside, seconds, spacing, kindAt, nextAt, badFrame, headless, many, most, tooMany, badFields, badItems, outside, lateStart, falling, reversed, coversNothing, lastInstant, closer, tooClose, numberOf, numberAt, numberFrom, refusal}
@@ -35,15 +35,15 @@ Least none m = m ≡ 0
 Least (some z) m = (p : ℕ) × (z ≡ meant w64 p) × (m ≡ p + spacing)
 
 pub record Counts (t : Seen) (before : List Record) : Type 0 where
-  pub coverages : t .coverages ≡ many 1 before
-  pub transitions : t .transitions ≡ many 2 before
-  pub rules : t .rules ≡ many 3 before
-  pub events : t .events ≡ many 4 before
+  pub coverages : t .coverages ≡ many coverageKind before
+  pub transitions : t .transitions ≡ many transitionKind before
+  pub rules : t .rules ≡ many ruleKind before
+  pub events : t .events ≡ many eventKind before
   pub coverages-few : t .coverages ≤ 1
   pub transitions-few : t .transitions ≤ base .transitions
   pub rules-few : t .rules ≤ base .rules
   pub events-few : t .events ≤ base .events
-  pub headed : many 1 before ≡ 0 → before ≡ []
+  pub headed : many coverageKind before ≡ 0 → before ≡ []
   pub least : Least (lastInstant before) (t .least)
 
 counted : (t : Seen) (before : List Record) → Counts t before → (k : ℕ) → Kind k → seen k t ≡ many k before
@@ -56,14 +56,14 @@ counted t before c k (four i) = rw i (c .events)
 
 module _ {t : Seen} {before : List Record} (c : Counts t before) where
   -- a book that begins with another record than kind 1 is refused
-  not-first : (r : Record) → headless before r ≡ false → (kindOf r ≡ 1 → ⊥) → many 1 before ≡ 0 → ⊥
+  not-first : (r : Record) → headless before r ≡ false → (kindOf r ≡ coverageKind → ⊥) → many coverageKind before ≡ 0 → ⊥
   not-first r h n z = go before (c .headed z) h
     where
       go : (bs : List Record) → bs ≡ [] → headless bs r ≡ false → ⊥
-      go [] e q = n (eqb-true (kindOf r) 1 (not-false (eqb (kindOf r) 1) q))
+      go [] e q = n (eqb-true (kindOf r) coverageKind (not-false (eqb (kindOf r) coverageKind) q))
       go (b ∷ bs) e q = let y : _≡_ {A = ℕ} 0 1 = cc in omega arith
 
-  more-1 : (v : Coverage) → many 1 before < 1
+  more-1 : (v : Coverage) → many coverageKind before < 1
       → Counts (record { coverages = t .coverages + 1; transitions = t .transitions; rules = t .rules; events = t .events; least = t .least }) (coverage v ∷ before)
   more-1 v h =
       record {
@@ -79,7 +79,7 @@ module _ {t : Seen} {before : List Record} (c : Counts t before) where
         least = c .least;
       }
 
-  more-2 : (v : Transition) (p : ℕ) → v .at ≡ meant w64 p → (many 1 before ≡ 0 → ⊥) → many 2 before < base .transitions
+  more-2 : (v : Transition) (p : ℕ) → v .at ≡ meant w64 p → (many coverageKind before ≡ 0 → ⊥) → many transitionKind before < base .transitions
       → Counts (record { coverages = t .coverages; transitions = t .transitions + 1; rules = t .rules; events = t .events; least = p + spacing }) (transition v ∷ before)
   more-2 v p q n h =
       record {
@@ -95,7 +95,7 @@ module _ {t : Seen} {before : List Record} (c : Counts t before) where
         least = (p, q, refl);
       }
 
-  more-3 : (v : Rule) → (many 1 before ≡ 0 → ⊥) → many 3 before < base .rules
+  more-3 : (v : Rule) → (many coverageKind before ≡ 0 → ⊥) → many ruleKind before < base .rules
       → Counts (record { coverages = t .coverages; transitions = t .transitions; rules = t .rules + 1; events = t .events; least = t .least }) (rule v ∷ before)
   more-3 v n h =
       record {
@@ -111,7 +111,7 @@ module _ {t : Seen} {before : List Record} (c : Counts t before) where
         least = c .least;
       }
 
-  more-4 : (v : Event) → (many 1 before ≡ 0 → ⊥) → many 4 before < base .events
+  more-4 : (v : Event) → (many coverageKind before ≡ 0 → ⊥) → many eventKind before < base .events
       → Counts (record { coverages = t .coverages; transitions = t .transitions; rules = t .rules; events = t .events + 1; least = t .least }) (event v ∷ before)
   more-4 v n h =
       record {
@@ -256,12 +256,12 @@ module _ {s : List ℕ} {at : ℕ} {t : Seen} {k : ℕ} (n : Known s at t k) whe
 
   -- ---- 9
 
-  close-is : k ≡ 2 → ltb (turned w64 (number transitionInstant s at)) (t .least) ≡ tooClose earlier r
+  close-is : k ≡ transitionKind → ltb (turned w64 (number transitionInstant s at)) (t .least) ≡ tooClose earlier r
   close-is i =
       closer-by (lastInstant earlier) (t .least) (turned w64 (number transitionInstant s at)) (n .here .counts .least)
       ∙ sym (ap (tooClose earlier) (is-two s at k (n .frame) (n .kind) i))
 
-  never-close : (k ≡ 2 → ⊥) → tooClose earlier r ≡ false
+  never-close : (k ≡ transitionKind → ⊥) → tooClose earlier r ≡ false
   never-close ne = go (kind-of s at k (n .frame) (n .kind))
     where
       go : Kind k → tooClose earlier r ≡ false
@@ -277,17 +277,17 @@ module _ {s : List ℕ} {at : ℕ} {t : Seen} {k : ℕ} (n : Known s at t k) whe
       let z : kindOf r ≡ j = kind-is ∙ n .kind ∙ i in
       leb-false (most base j) (many j earlier) (ap (λ (m : ℕ). leb (most base m) (many m earlier)) (sym z) ∙ h)
 
-  not-one : headless earlier r ≡ false → (j : ℕ) → kindAt s at ≡ j → (j ≡ 1 → ⊥) → many 1 earlier ≡ 0 → ⊥
+  not-one : headless earlier r ≡ false → (j : ℕ) → kindAt s at ≡ j → (j ≡ coverageKind → ⊥) → many coverageKind earlier ≡ 0 → ⊥
   not-one h j i ne = not-first (n .here .counts) r h (λ q. ne (sym i ∙ sym (n .kind) ∙ sym kind-is ∙ q))
 
   counts-on : headless earlier r ≡ false → tooMany base earlier r ≡ false → (t′ : Seen) → t′ ≡ oneMore s at t → Counts t′ (r ∷ earlier)
   counts-on h2 h3 t′ e = go (kind-of s at (kindAt s at) (n .frame) refl)
     where
       go : Kind (kindAt s at) → Counts t′ (r ∷ earlier)
-      go (one i) = rw (e, i) (more-1 (n .here .counts) (coverageAt s at) (few-of h3 1 i))
-      go (two i) = rw (e, i) (more-2 (n .here .counts) (transitionAt s at) (turned w64 (number transitionInstant s at)) refl (not-one h2 2 i (λ q. omega arith)) (few-of h3 2 i))
-      go (three i) = rw (e, i) (more-3 (n .here .counts) (ruleAt s at) (not-one h2 3 i (λ q. omega arith)) (few-of h3 3 i))
-      go (four i) = rw (e, i) (more-4 (n .here .counts) (eventAt s at) (not-one h2 4 i (λ q. omega arith)) (few-of h3 4 i))
+      go (one i) = rw (e, i) (more-1 (n .here .counts) (coverageAt s at) (few-of h3 coverageKind i))
+      go (two i) = rw (e, i) (more-2 (n .here .counts) (transitionAt s at) (turned w64 (number transitionInstant s at)) refl (not-one h2 transitionKind i (λ q. omega arith)) (few-of h3 transitionKind i))
+      go (three i) = rw (e, i) (more-3 (n .here .counts) (ruleAt s at) (not-one h2 ruleKind i (λ q. omega arith)) (few-of h3 ruleKind i))
+      go (four i) = rw (e, i) (more-4 (n .here .counts) (eventAt s at) (not-one h2 eventKind i (λ q. omega arith)) (few-of h3 eventKind i))
 
   seconds-high : (p : ℕ) → not (inside seconds (meant w64 p)) ≡ false → p ≤ half w64 + 7258118400
   unfolding meant
@@ -312,7 +312,7 @@ module _ {s : List ℕ} {at : ℕ} {t : Seen} {k : ℕ} (n : Known s at t k) whe
 
   -- ---- 2
 
-  headless-by : (bs : List Record) → t .coverages ≡ many 1 bs → (many 1 bs ≡ 0 → bs ≡ []) → (eqb (t .coverages) 0 && not (eqb k 1)) ≡ headless bs r
+  headless-by : (bs : List Record) → t .coverages ≡ many coverageKind bs → (many coverageKind bs ≡ 0 → bs ≡ []) → (eqb (t .coverages) 0 && not (eqb k coverageKind)) ≡ headless bs r
   headless-by [] c h = rw (c, kind-is)
   headless-by (b ∷ bs) c h =
       let z : (t .coverages ≡ 0 → ⊥) = λ q. no-cons (h (sym c ∙ q)) in
@@ -321,7 +321,7 @@ module _ {s : List ℕ} {at : ℕ} {t : Seen} {k : ℕ} (n : Known s at t k) whe
       no-cons : _≡_ {A = List Record} (b ∷ bs) [] → ⊥
       no-cons q = let y : _≡_ {A = ℕ} 0 1 = cc in omega arith
 
-  pub headless-is : (eqb (t .coverages) 0 && not (eqb k 1)) ≡ headless earlier r
+  pub headless-is : (eqb (t .coverages) 0 && not (eqb k coverageKind)) ≡ headless earlier r
   headless-is = headless-by earlier (n .here .counts .coverages) (n .here .counts .headed)
 
   pub head-2 : headless earlier r ≡ true → 2 ≡ refusal base s
@@ -380,17 +380,17 @@ module _ {s : List ℕ} {at : ℕ} {t : Seen} {k n i item least : ℕ} {fell : B
     within : outside base (r kn) ≡ false
     within = ap₂ _||_ (p .fields) (sym items-bad-at ∙ looked-all (p .looked) h)
 
-    pub falls-is : (fell && eqb k 3) ≡ falling (r kn)
-    falls-is = ap (λ (b : Bool). b && eqb k 3) (sym (looked-falls (p .looked) h)) ∙ items-fall s at k n (kn .frame) (kn .kind) (p .many)
+    pub falls-is : (fell && isRule k) ≡ falling (r kn)
+    falls-is = ap (λ (b : Bool). b && isRule k) (sym (looked-falls (p .looked) h)) ∙ items-fall s at k n (kn .frame) (kn .kind) (p .many)
 
     pub late-5 : lateStart (r kn) ≡ true → 5 ≡ refusal base s
     late-5 e = by-number kn 5 (number-5 base (earlier kn) (r kn) (p .headed) (p .few) within e) (omega arith)
 
     module _ (h5 : lateStart (r kn) ≡ false) where
-      pub falls-6 : (fell && eqb k 3) ≡ true → 6 ≡ refusal base s
+      pub falls-6 : (fell && isRule k) ≡ true → 6 ≡ refusal base s
       falls-6 e = by-number kn 6 (number-6 base (earlier kn) (r kn) (p .headed) (p .few) within h5 (sym falls-is ∙ e)) (omega arith)
 
-      module _ (h6 : (fell && eqb k 3) ≡ false) where
+      module _ (h6 : (fell && isRule k) ≡ false) where
         pub reversed-7 : reversed (r kn) ≡ true → 7 ≡ refusal base s
         reversed-7 e = by-number kn 7 (number-7 base (earlier kn) (r kn) (p .headed) (p .few) within h5 (sym falls-is ∙ h6) e) (omega arith)
 
@@ -421,22 +421,22 @@ module _ {s : List ℕ} {at : ℕ} {t : Seen} {k n i item least : ℕ} {fell : B
                 t′ (counts-on kn (p .headed) (p .few) t′ e) next to
 
             -- no transition
-            pub on-other : (k ≡ 2 → ⊥) → (t′ : Seen) → t′ ≡ oneMore s at t → (next : ℕ) → next ≡ nextAt s at → Here s next t′
+            pub on-other : (k ≡ transitionKind → ⊥) → (t′ : Seen) → t′ ≡ oneMore s at t → (next : ℕ) → next ≡ nextAt s at → Here s next t′
             on-other ne = on-all (never-close kn ne)
 
 -- ---- a transition: it has no points, and of the tests behind its fields only the last can fail
 
-module _ {s : List ℕ} {at : ℕ} {t : Seen} {k : ℕ} (n : Known s at t k) (i : k ≡ 2) (h2 : headless (earlier n) (r n) ≡ false)
+module _ {s : List ℕ} {at : ℕ} {t : Seen} {k : ℕ} (n : Known s at t k) (i : k ≡ transitionKind) (h2 : headless (earlier n) (r n) ≡ false)
     (h3 : tooMany base (earlier n) (r n) ≡ false) (h4 : badFields base (r n) ≡ false) where
   abbrev looking : Looking s at t k 0 0 at 0 false
   looking =
-      record { known = n; headed = h2; few = h3; fields = h4; many = few-items s at k (n .frame) (n .kind) (omega arith); looked = looked-none s k at 0 }
+      record { known = n; headed = h2; few = h3; fields = h4; many = few-items s at k (n .frame) (n .kind) (rw i); looked = looked-none s k at 0 }
 
   h5 : lateStart (r n) ≡ false
-  h5 = sym (never-late s at k (n .frame) (n .kind) (λ q. omega arith))
+  h5 = sym (never-late s at k (n .frame) (n .kind) (rw i))
 
   h7 : reversed (r n) ≡ false
-  h7 = sym (never-reversed s at k (n .frame) (n .kind) (omega arith))
+  h7 = sym (never-reversed s at k (n .frame) (n .kind) (rw i))
 
   h8 : coversNothing (r n) ≡ false
   h8 = sym (no-coverage s at k (n .frame) (n .kind) (λ q. omega arith))

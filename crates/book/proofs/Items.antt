@@ -8,9 +8,9 @@ use native.Mathlib.Numerals.{add-one}
 use native.Mathlib.Omega.{arith}
 use borrow.Author.Tests.{le-ltb, leb-false}
 use lib.ListN.{length}
-use lib.Dec.{ltb, leb, eqb, leb·suc-suc}
+use lib.Dec.{ltb, leb, leb·suc-suc}
 use Rattle.zone.specs.Units.{dayNs}
-use Rattle.records.specs.Layout.{number, count, time, step}
+use Rattle.records.specs.Layout.{number, count, time, step, ruleKind, eventKind, coverageKind, transitionKind, isRule, isDated}
 use Rattle.records.specs.Records.{recordAt, pointsAt, timesAt}
 use Rattle.records.specs.Book.{kindAt, any, badTime, badPoint, badItems, fallsFrom, falls, falling}
 use Rattle.records.specs.Frame.{Framed, itemsAt}
@@ -21,30 +21,30 @@ use Rattle.records.proofs.Frames.{is-one, is-two, is-three, is-four}
 
 -- ---- the tests of a list, as they are made along the bytes
 
-any-points : (s : List ℕ) (at n : ℕ) → badFrom s 3 at n ≡ any badPoint (pointsAt s at n)
+any-points : (s : List ℕ) (at n : ℕ) → badFrom s ruleKind at n ≡ any badPoint (pointsAt s at n)
 unfolding badFrom pointsAt
 any-points s at zero = refl
-any-points s at (suc n) = ap (_||_ (badItem s 3 at)) (any-points s (at + step 3) n)
+any-points s at (suc n) = ap (_||_ (badItem s ruleKind at)) (any-points s (at + step ruleKind) n)
 
-any-times : (s : List ℕ) (at n : ℕ) → badFrom s 4 at n ≡ any badTime (timesAt s at n)
+any-times : (s : List ℕ) (at n : ℕ) → badFrom s eventKind at n ≡ any badTime (timesAt s at n)
 unfolding badFrom timesAt
 any-times s at zero = refl
-any-times s at (suc n) = ap₂ _||_ (or-no (badTime (number (time 4) s at))) (any-times s (at + step 4) n)
+any-times s at (suc n) = ap₂ _||_ (or-no (badTime (number (time eventKind) s at))) (any-times s (at + step eventKind) n)
 
 ltb-suc : (a b : ℕ) → ltb a (b + 1) ≡ leb a b
 ltb-suc a b = ap (ltb a) (add-one b) ∙ leb·suc-suc a b
 
-falls-from : (s : List ℕ) (t at n : ℕ) → fallsAt s 3 (t + 1) at n ≡ fallsFrom t (pointsAt s at n)
+falls-from : (s : List ℕ) (t at n : ℕ) → fallsAt s ruleKind (t + 1) at n ≡ fallsFrom t (pointsAt s at n)
 unfolding fallsAt pointsAt
 falls-from s t at zero = refl
-falls-from s t at (suc n) = ap₂ _||_ (ltb-suc (number (time 3) s at) t) (falls-from s (number (time 3) s at) (at + step 3) n)
+falls-from s t at (suc n) = ap₂ _||_ (ltb-suc (number (time ruleKind) s at) t) (falls-from s (number (time ruleKind) s at) (at + step ruleKind) n)
 
-falls-points : (s : List ℕ) (at n : ℕ) → fallsAt s 3 0 at n ≡ falls (pointsAt s at n)
+falls-points : (s : List ℕ) (at n : ℕ) → fallsAt s ruleKind 0 at n ≡ falls (pointsAt s at n)
 unfolding fallsAt pointsAt
 falls-points s at zero = refl
 falls-points s at (suc n) =
-    ap (λ (b : Bool). b || fallsAt s 3 (number (time 3) s at + 1) (at + step 3) n) (le-ltb (number (time 3) s at) 0 (omega arith))
-    ∙ falls-from s (number (time 3) s at) (at + step 3) n
+    ap (λ (b : Bool). b || fallsAt s ruleKind (number (time ruleKind) s at + 1) (at + step ruleKind) n) (le-ltb (number (time ruleKind) s at) 0 (omega arith))
+    ∙ falls-from s (number (time ruleKind) s at) (at + step ruleKind) n
 
 -- ---- the first i of n of them were looked at: the next stands at `item`
 
@@ -106,24 +106,24 @@ module _ {s : List ℕ} {k at n i item least : ℕ} {fell : Bool} (l : Looked s 
 -- ---- what that says of the record
 
 module _ (s : List ℕ) (at k n : ℕ) (f : Framed s at) (e : k ≡ kindAt s at) (q : n ≡ itemsAt s at) where
-  none-of : k < 3 → n ≡ 0
+  none-of : isDated k ≡ false → n ≡ 0
   none-of h = q ∙ sym (few-items s at k f e h)
 
-  count-of : (j : ℕ) → k ≡ j → (j ≡ 3) → n ≡ number (count 3) s at
-  count-of j i z = let y : kindAt s at ≡ 3 = sym e ∙ i ∙ z in q ∙ (rw y)
+  count-of : (j : ℕ) → k ≡ j → j ≡ ruleKind → n ≡ number (count ruleKind) s at
+  count-of j i z = let y : kindAt s at ≡ ruleKind = sym e ∙ i ∙ z in q ∙ (rw y)
 
-  count-four : k ≡ 4 → n ≡ number (count 4) s at
-  count-four i = let y : kindAt s at ≡ 4 = sym e ∙ i in q ∙ (rw y)
+  count-four : k ≡ eventKind → n ≡ number (count eventKind) s at
+  count-four i = let y : kindAt s at ≡ eventKind = sym e ∙ i in q ∙ (rw y)
 
   pub items-bad : badFrom s k at n ≡ badItems (recordAt s at)
   unfolding badFrom
   items-bad = go (kind-of s at k f e)
     where
       go : Kind k → badFrom s k at n ≡ badItems (recordAt s at)
-      go (one i) = ap (badFrom s k at) (none-of (omega arith)) ∙ sym (ap badItems (is-one s at k f e i))
-      go (two i) = ap (badFrom s k at) (none-of (omega arith)) ∙ sym (ap badItems (is-two s at k f e i))
-      go (three i) = ap₂ (λ (x y : ℕ). badFrom s x at y) i (count-of k refl i) ∙ any-points s at (number (count 3) s at) ∙ sym (ap badItems (is-three s at k f e i))
-      go (four i) = ap₂ (λ (x y : ℕ). badFrom s x at y) i (count-four i) ∙ any-times s at (number (count 4) s at) ∙ sym (ap badItems (is-four s at k f e i))
+      go (one i) = ap (badFrom s k at) (none-of (rw i)) ∙ sym (ap badItems (is-one s at k f e i))
+      go (two i) = ap (badFrom s k at) (none-of (rw i)) ∙ sym (ap badItems (is-two s at k f e i))
+      go (three i) = ap₂ (λ (x y : ℕ). badFrom s x at y) i (count-of k refl i) ∙ any-points s at (number (count ruleKind) s at) ∙ sym (ap badItems (is-three s at k f e i))
+      go (four i) = ap₂ (λ (x y : ℕ). badFrom s x at y) i (count-four i) ∙ any-times s at (number (count eventKind) s at) ∙ sym (ap badItems (is-four s at k f e i))
 
   and-no : (a : Bool) → (a && false) ≡ false
   and-no true = refl
@@ -133,29 +133,29 @@ module _ (s : List ℕ) (at k n : ℕ) (f : Framed s at) (e : k ≡ kindAt s at)
   and-yes true = refl
   and-yes false = refl
 
-  pub items-fall : (fallsAt s k 0 at n && eqb k 3) ≡ falling (recordAt s at)
+  pub items-fall : (fallsAt s k 0 at n && isRule k) ≡ falling (recordAt s at)
   items-fall = go (kind-of s at k f e)
     where
-      other : (j : ℕ) → k ≡ j → eqb j 3 ≡ false → (fallsAt s k 0 at n && eqb k 3) ≡ false
-      other j i z = ap (λ (m : ℕ). fallsAt s k 0 at n && eqb m 3) i ∙ ap (_&&_ (fallsAt s k 0 at n)) z ∙ and-no (fallsAt s k 0 at n)
+      other : (j : ℕ) → k ≡ j → isRule j ≡ false → (fallsAt s k 0 at n && isRule k) ≡ false
+      other j i z = ap (λ (m : ℕ). fallsAt s k 0 at n && isRule m) i ∙ ap (_&&_ (fallsAt s k 0 at n)) z ∙ and-no (fallsAt s k 0 at n)
 
-      go : Kind k → (fallsAt s k 0 at n && eqb k 3) ≡ falling (recordAt s at)
-      go (one i) = other 1 i refl ∙ sym (ap falling (is-one s at k f e i))
-      go (two i) = other 2 i refl ∙ sym (ap falling (is-two s at k f e i))
+      go : Kind k → (fallsAt s k 0 at n && isRule k) ≡ falling (recordAt s at)
+      go (one i) = other coverageKind i refl ∙ sym (ap falling (is-one s at k f e i))
+      go (two i) = other transitionKind i refl ∙ sym (ap falling (is-two s at k f e i))
       go (three i) =
-          ap (λ (m : ℕ). fallsAt s k 0 at n && eqb m 3) i ∙ and-yes (fallsAt s k 0 at n)
+          ap (λ (m : ℕ). fallsAt s k 0 at n && isRule m) i ∙ and-yes (fallsAt s k 0 at n)
           ∙ ap₂ (λ (x y : ℕ). fallsAt s x 0 at y) i (count-of k refl i)
-          ∙ falls-points s at (number (count 3) s at)
+          ∙ falls-points s at (number (count ruleKind) s at)
           ∙ sym (ap falling (is-three s at k f e i))
-      go (four i) = other 4 i refl ∙ sym (ap falling (is-four s at k f e i))
+      go (four i) = other eventKind i refl ∙ sym (ap falling (is-four s at k f e i))
 
   -- there is room for the next
   pub item-room : (i item : ℕ) → i < n → item ≡ at + i * step k → item + (time k .from + step k) ≤ length s
   item-room i item h p = go (kind-of s at k f e)
     where
       go : Kind k → item + (time k .from + step k) ≤ length s
-      go (one j) = absurd (let z = none-of (omega arith) in omega arith)
-      go (two j) = absurd (let z = none-of (omega arith) in omega arith)
+      go (one j) = absurd (let z = none-of (rw j) in omega arith)
+      go (two j) = absurd (let z = none-of (rw j) in omega arith)
       go (three j) =
           let c = count-of k refl j in
           let r = room3 s at k f e j in

@@ -3,16 +3,16 @@ use Prim.Native.Nat.{ℕ, zero, suc, _+_, _-_, _^_, _<_}
 use mathlib.Core.Path.{_≡_}
 use mathlib.Core.Bool.{Bool, false, _&&_, _||_}
 use mathlib.Core.List.{List}
-use lib.Dec.{ltb, eqb}
+use lib.Dec.{ltb}
 use mir.Syntax.{w64}
 use Rattle.wire.specs.Signs.{turned}
 use Rattle.book.specs.declared.judge.Seen.{Seen}
-use Rattle.records.specs.Layout.{number, by, transitionInstant, time, phase, step}
+use Rattle.records.specs.Layout.{number, by, transitionInstant, time, phase, step, transitionKind, isRule}
 use Rattle.records.specs.Book.{badTime, kindAt, spacing}
 
 -- one point or time, read from `at` on
 abbrev pub badItem : List ℕ → ℕ → ℕ → Bool
-badItem s k at = badTime (number (time k) s at) || (eqb k 3 && ltb 7 (number (phase k) s at))
+badItem s k at = badTime (number (time k) s at) || (isRule k && ltb 7 (number (phase k) s at))
 
 -- one of n of them
 unfoldable pub badFrom : List ℕ → ℕ → ℕ → ℕ → Bool
@@ -30,7 +30,7 @@ pub record Room (s : List ℕ) (at : ℕ) (t : Seen) : Type 0 where
   pub transitions : t .transitions < 2 ^ 31
   pub rules : t .rules < 2 ^ 31
   pub events : t .events < 2 ^ 31
-  pub instant : kindAt s at ≡ 2 → turned w64 (number transitionInstant s at) < 2 ^ 64 - spacing
+  pub instant : kindAt s at ≡ transitionKind → turned w64 (number transitionInstant s at) < 2 ^ 64 - spacing
 
 abbrev pub oneMore : List ℕ → ℕ → Seen → Seen
 oneMore s at t =

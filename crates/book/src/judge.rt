@@ -7,7 +7,7 @@ ghost use lib.ListN.{length};
 ghost use mir.Syntax.{w32, w64};
 ghost use Rattle.wire.specs.Fields.{Inside, field};
 ghost use Rattle.wire.specs.Signs.{turned, signed};
-ghost use Rattle.records.specs.Layout.{number, integer, count, time, step, transitionInstant, dayFirst, dayLast};
+ghost use Rattle.records.specs.Layout.{number, integer, count, time, step, transitionInstant, dayFirst, dayLast, ruleCode, ruleKind, eventKind, coverageSize, transitionSize};
 ghost use Rattle.records.specs.Limits.{base};
 ghost use Rattle.records.specs.Records.{coverage, transition, rule, event, recordAt, coverageAt, transitionAt, ruleAt, eventAt, publishedAt};
 ghost use Rattle.records.specs.Book.{kindAt, badFrame, badFields, badUncertainty, badDays, inside, most, lateStart, reversed, coversNothing};
@@ -31,19 +31,7 @@ pub(crate) struct Seen {
     pub least: u64,
 }
 
-// Limits, as in document 01.
-pub(crate) const MOST_BYTES: usize = 65_536;
-
-pub const MOST_TRANSITIONS: usize = 640;
-
-pub const MOST_RULES: usize = 256;
-
-pub const MOST_EVENTS: usize = 32;
-
-pub const MOST_POINTS: u8 = 16;
-
-const MOST_TIMES: u8 = 8;
-
+// Seconds from a transition to the next.
 const SPACING: u64 = 172_800;
 
 fn outside4(book: &[u8], p: usize, low: u32, high: u32) -> bool
@@ -83,10 +71,16 @@ pub(crate) fn bad_frame(book: &[u8], at: usize) -> bool
     }
     let kind = get2(book, at + KIND);
     match kind {
-        1 => size != 22,
-        2 => size != 14,
-        3 => size != 30 + 9 * (byte_or_0(book, at + count_place(RULE)) as usize),
-        4 => size != 26 + 8 * (byte_or_0(book, at + count_place(EVENT)) as usize),
+        COVERAGE => 2 + size != COVERAGE_SIZE,
+        TRANSITION => 2 + size != TRANSITION_SIZE,
+        RULE => {
+            let n = byte_or_0(book, at + count_place(RULE)) as usize;
+            2 + size != time_place(RULE) + POINT_SIZE * n
+        }
+        EVENT => {
+            let n = byte_or_0(book, at + count_place(EVENT)) as usize;
+            2 + size != time_place(EVENT) + TIME_SIZE * n
+        }
         _ => true,
     }
 }
@@ -96,16 +90,16 @@ pub(crate) fn too_many(kind: u16, t: Seen) -> bool
     ensures { λ r. ⌜ r ≡ leb (most base kind) (seen kind t) ⌝ }
 {
     match kind {
-        1 => 1 <= t.coverages,
-        2 => (MOST_TRANSITIONS as u32) <= t.transitions,
-        3 => (MOST_RULES as u32) <= t.rules,
+        COVERAGE => 1 <= t.coverages,
+        TRANSITION => (MOST_TRANSITIONS as u32) <= t.transitions,
+        RULE => (MOST_RULES as u32) <= t.rules,
         _ => (MOST_EVENTS as u32) <= t.events,
     }
 }
 
 // 4: a field outside its range. The tests of a kind.
 fn bad_coverage(book: &[u8], at: usize) -> bool
-    requires { ⌜ Inside at 24 (now book) ⌝ }
+    requires { ⌜ Inside at coverageSize (now book) ⌝ }
     ensures { λ r. ⌜ r ≡ badFields base (coverage (coverageAt (now (book .entry)) at)) ⌝ }
 {
     outside8(book, at + COVERAGE_START, INSTANTS_LOW, INSTANTS_HIGH)
@@ -114,7 +108,7 @@ fn bad_coverage(book: &[u8], at: usize) -> bool
 }
 
 fn bad_transition(book: &[u8], at: usize) -> bool
-    requires { ⌜ Inside at 16 (now book) ⌝ }
+    requires { ⌜ Inside at transitionSize (now book) ⌝ }
     ensures { λ r. ⌜ r ≡ badFields base (transition (transitionAt (now (book .entry)) at)) ⌝ }
 {
     outside8(book, at + TRANSITION_INSTANT, SECONDS_LOW, SECONDS_HIGH)
@@ -122,7 +116,7 @@ fn bad_transition(book: &[u8], at: usize) -> bool
 }
 
 fn bad_days(book: &[u8], at: usize) -> bool
-    requires { ⌜ Inside at 12 (now book) ⌝ }
+    requires { ⌜ Inside at (ruleCode .from) (now book) ⌝ }
     ensures { λ r. ⌜ r ≡ badDays (integer w32 dayFirst (now (book .entry)) at) (integer w32 dayLast (now (book .entry)) at) ⌝ }
 {
     outside4(book, at + DAY_FIRST, DAYS_LOW, DAYS_HIGH)
@@ -135,14 +129,14 @@ fn bad_uncertainty(book: &[u8], at: usize, kind: u16) -> bool
 {
     let p = at + tag_place(kind);
     let tag = get1(book, p);
-    let nanoseconds = signed8(book, p + 1).0;
-    let text = get2(book, p + 9);
+    let nanoseconds = signed8(book, p + NANOSECONDS).0;
+    let text = get2(book, p + TEXT);
     ((3 < tag) | ((nanoseconds < WIDTHS_LOW) | (WIDTHS_HIGH < nanoseconds)))
         | ((((tag == 0) | (tag == 3)) & (WIDTHS_LOW < nanoseconds)) | ((tag < 2) & (text != 0)))
 }
 
 fn bad_rule(book: &[u8], at: usize) -> bool
-    requires { ⌜ Inside at 32 (now book) ⌝ }
+    requires { ⌜ Inside at (time ruleKind .from) (now book) ⌝ }
     ensures { λ r. ⌜ r ≡ badFields base (rule (ruleAt (now (book .entry)) at)) ⌝ }
 {
     let code = get1(book, at + RULE_CODE);
@@ -157,7 +151,7 @@ fn bad_rule(book: &[u8], at: usize) -> bool
 }
 
 fn bad_event(book: &[u8], at: usize) -> bool
-    requires { ⌜ Inside at 28 (now book) ⌝ }
+    requires { ⌜ Inside at (time eventKind .from) (now book) ⌝ }
     ensures { λ r. ⌜ r ≡ badFields base (event (eventAt (now (book .entry)) at)) ⌝ }
 {
     let n = get1(book, at + count_place(EVENT));
@@ -169,9 +163,9 @@ pub(crate) fn bad_fields(book: &[u8], at: usize, kind: u16) -> bool
     ensures { λ r. ⌜ r ≡ badFields base (recordAt (now (book .entry)) at) ⌝ }
 {
     match kind {
-        1 => bad_coverage(book, at),
-        2 => bad_transition(book, at),
-        3 => bad_rule(book, at),
+        COVERAGE => bad_coverage(book, at),
+        TRANSITION => bad_transition(book, at),
+        RULE => bad_rule(book, at),
         _ => bad_event(book, at),
     }
 }
@@ -181,7 +175,7 @@ pub(crate) fn items(book: &[u8], at: usize, kind: u16) -> u8
     requires { ⌜ Framed (now book) at × (kind ≡ kindAt (now book) at) ⌝ }
     ensures { λ r. ⌜ r ≡ itemsAt (now (book .entry)) at ⌝ }
 {
-    if kind < RULE {
+    if !is_dated(kind) {
         return 0;
     }
     get1(book, at + count_place(kind))
@@ -200,10 +194,10 @@ pub(crate) fn bad_item(book: &[u8], at: usize, kind: u16) -> bool
     ensures { λ r. ⌜ r ≡ badItem (now (book .entry)) kind at ⌝ }
 {
     let time = item_time(book, at, kind);
-    if kind != RULE {
+    if !is_rule(kind) {
         return DAY_NS <= time;
     }
-    (DAY_NS <= time) | (LAST_PHASE < get1(book, at + time_place(kind) + 8))
+    (DAY_NS <= time) | (LAST_PHASE < get1(book, at + time_place(kind) + PHASE))
 }
 
 // 5: a rule's first point not 00:00, or no point.
@@ -211,7 +205,7 @@ pub(crate) fn late_start(book: &[u8], at: usize, kind: u16) -> bool
     requires { ⌜ Framed (now book) at × (kind ≡ kindAt (now book) at) ⌝ }
     ensures { λ r. ⌜ r ≡ lateStart (recordAt (now (book .entry)) at) ⌝ }
 {
-    if kind != RULE {
+    if !is_rule(kind) {
         return false;
     }
     if items(book, at, kind) == 0 {
@@ -225,7 +219,7 @@ pub(crate) fn is_reversed(book: &[u8], at: usize, kind: u16) -> bool
     requires { ⌜ Framed (now book) at × (kind ≡ kindAt (now book) at) ⌝ }
     ensures { λ r. ⌜ r ≡ reversed (recordAt (now (book .entry)) at) ⌝ }
 {
-    if kind < RULE {
+    if !is_dated(kind) {
         return false;
     }
     signed4(book, at + DAY_LAST).0 < signed4(book, at + DAY_FIRST).0
@@ -244,7 +238,7 @@ pub(crate) fn covers_nothing(book: &[u8], at: usize, kind: u16) -> bool
 
 // 9: a transition before the earliest second that it may have.
 pub(crate) fn too_close(book: &[u8], at: usize, least: u64) -> bool
-    requires { ⌜ Inside at 16 (now book) ⌝ }
+    requires { ⌜ Inside at transitionSize (now book) ⌝ }
     ensures { λ r. ⌜ r ≡ ltb (turned w64 (number transitionInstant (now (book .entry)) at)) least ⌝ }
 {
     signed8(book, at + TRANSITION_INSTANT).0 < least
@@ -256,21 +250,21 @@ pub(crate) fn one_more(t: Seen, book: &[u8], at: usize, kind: u16) -> Seen
     ensures { λ r. ⌜ r ≡ oneMore (now (book .entry)) at t ⌝ }
 {
     match kind {
-        1 => Seen {
+        COVERAGE => Seen {
             coverages: t.coverages + 1,
             transitions: t.transitions,
             rules: t.rules,
             events: t.events,
             least: t.least,
         },
-        2 => Seen {
+        TRANSITION => Seen {
             coverages: t.coverages,
             transitions: t.transitions + 1,
             rules: t.rules,
             events: t.events,
             least: signed8(book, at + TRANSITION_INSTANT).0 + SPACING,
         },
-        3 => Seen {
+        RULE => Seen {
             coverages: t.coverages,
             transitions: t.transitions,
             rules: t.rules + 1,

@@ -5,9 +5,10 @@ ghost use Rattle.records.specs.Book.{refusal};
 use crate::judge::*;
 use records::COVERAGE;
 use records::KIND;
-use records::RULE;
+use records::MOST_BYTES;
 use records::TRANSITION;
-use records::TRANSITION_BYTES;
+use records::TRANSITION_SIZE;
+use records::is_rule;
 use records::step_of;
 use wire::get2;
 
@@ -51,7 +52,7 @@ pub fn check(book: &[u8]) -> u32
                 break 'records 9;
             }
             t = one_more(t, book, at, kind);
-            at += TRANSITION_BYTES;
+            at += TRANSITION_SIZE;
             continue 'records;
         }
         let n = items(book, at, kind);
@@ -72,7 +73,7 @@ pub fn check(book: &[u8]) -> u32
         if late_start(book, at, kind) {
             break 'records 5;
         }
-        if falls & (kind == RULE) {
+        if falls & is_rule(kind) {
             break 'records 6;
         }
         if is_reversed(book, at, kind) {

@@ -18,6 +18,7 @@ use Rattle.rows.specs.declared.Segment.{Segment}
 use Rattle.rows.proofs.Turns.{mark-holds}
 use Rattle.rows.proofs.Places.{holds as segment-holds, segments-end, mark-end, rows-end, segments-mark, mark-mark, rows-mark}
 use Rattle.rows.proofs.Steps.{Ends, Anew, Sees, Happens, Going, segment-going, event-going}
+use Rattle.answer.specs.Forms.{eventSize}
 use Rattle.classes.specs.Classes.{shownAt, classOf, classAt}
 use Rattle.classes.specs.Reading.{marks, classIn, firstOf, Only, Another}
 use Rattle.classes.specs.declared.Class.{Class}
@@ -78,8 +79,8 @@ class-on s g ss t = go (holds (marks g) t)
 
 pub record Along (allowed : Bool) (s : List ℕ) (start t at least n : ℕ) (shown : Class) : Type 0 where
   pub going : Going allowed s (goodOn allowed s start 0 0) at least n
-  pub same : firstOf shown (classAt (segmentsAt s (at + 35 * n)) t) ≡ classAt (segmentsAt s start) t
-  pub next : markAt s start ≡ markAt s (at + 35 * n)
+  pub same : firstOf shown (classAt (segmentsAt s (at + eventSize * n)) t) ≡ classAt (segmentsAt s start) t
+  pub next : markAt s start ≡ markAt s (at + eventSize * n)
   pub after : start ≤ at
 
 module _ (allowed : Bool) (s : List ℕ) (start t : ℕ) where
@@ -93,12 +94,12 @@ module _ (allowed : Bool) (s : List ℕ) (start t : ℕ) where
     found : n ≡ 0 → segmentsAt s at ≡ [] → shown ≡ classAt (segmentsAt s start) t
     unfolding look
     found z e =
-        let y : at + 35 * n ≡ at = omega arith in
+        let y : at + eventSize * n ≡ at = omega arith in
         sym (first-none shown) ∙ ap (λ (ss : List (Span Rows.Seen)). firstOf shown (classAt ss t)) (sym e)
         ∙ ap (λ (b : ℕ). firstOf shown (classAt (segmentsAt s b) t)) (sym y) ∙ a .same
 
     next-at : n ≡ 0 → markAt s at ≡ at → markAt s start ≡ at
-    next-at z e = let y : at + 35 * n ≡ at = omega arith in a .next ∙ ap (markAt s) y ∙ e
+    next-at z e = let y : at + eventSize * n ≡ at = omega arith in a .next ∙ ap (markAt s) y ∙ e
 
     pub along-end : Ends allowed s at least n → Only allowed s start t shown
     along-end e =
@@ -127,7 +128,7 @@ module _ (allowed : Bool) (s : List ℕ) (start t : ℕ) where
     along-segment o {g} e {x} {y} i j =
         let h = segment-holds s at (o .segment) in
         let rest = classAt (segmentsAt s (endOf g)) t in
-        let z : at + 35 * n ≡ at = let k = o .none in omega arith in
+        let z : at + eventSize * n ≡ at = let k = o .none in omega arith in
         let spans : segmentsAt s at ≡ spanOf s g ∷ segmentsAt s (endOf g) = rw e (h .segments) in
         record {
           going = segment-going (a .going) o e;
@@ -138,7 +139,7 @@ module _ (allowed : Bool) (s : List ℕ) (start t : ℕ) where
           after = rw e (omega (arith, a .after, h .after));
         }
 
-    pub along-event : Happens allowed s at least n → Along allowed s start t (at + 35) least (n - 1) shown
+    pub along-event : Happens allowed s at least n → Along allowed s start t (at + eventSize) least (n - 1) shown
     along-event o =
         record {
           going = event-going (a .going) o;

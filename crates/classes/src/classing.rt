@@ -9,12 +9,12 @@ ghost use Rattle.classes.specs.Reading.{classIn, firstOf, Classes};
 use crate::BAD_ROW;
 use crate::Class;
 use crate::ClassReply;
-use answer::EVENT_BYTES;
+use answer::EVENT_SIZE;
+use answer::MARK_SIZE;
 use query::Asked;
 use query::OUTSIDE;
 use query::asked_at;
 use records::is_trading;
-use rows::MARK_BYTES;
 use rows::Segment;
 use rows::Shows;
 use rows::Stands;
@@ -88,7 +88,7 @@ pub(crate) fn row_class(rows: &[u8], start: usize, marks: bool, t: u64) -> Class
                 return Classed::Last(shown);
             }
             Stands::Mark => {
-                return Classed::More(shown, at + MARK_BYTES);
+                return Classed::More(shown, at + MARK_SIZE);
             }
             Stands::Segment => {
                 let g = segment_at(rows, at);
@@ -99,7 +99,7 @@ pub(crate) fn row_class(rows: &[u8], start: usize, marks: bool, t: u64) -> Class
                 waiting = g.events;
             }
             Stands::Event => {
-                at += EVENT_BYTES;
+                at += EVENT_SIZE;
                 waiting -= 1;
             }
         }

@@ -9,10 +9,10 @@ use crate::Class;
 use crate::CountReply;
 use crate::classing::Classed;
 use crate::classing::row_class;
+use answer::MARK_SIZE;
 use query::Asked;
 use query::OUTSIDE;
 use query::asked_at;
-use rows::MARK_BYTES;
 use rows::Stands;
 use rows::stands_at;
 use wire::place;
@@ -81,7 +81,7 @@ fn count_rows(rows: &[u8], t: u64) -> CountReply
         not_trading: 0,
         not_known: 0,
     };
-    let mut at = MARK_BYTES;
+    let mut at = MARK_SIZE;
     loop {
         match row_class(rows, at, true, t) {
             Classed::Bad => {

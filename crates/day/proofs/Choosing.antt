@@ -13,7 +13,7 @@ use lib.Seq.{drop-cons, drop-length}
 use Rattle.calendar.specs.Answers.{weekdayOf}
 use Rattle.records.specs.Records.{Rule, ruleAt}
 use Rattle.venue.specs.Opening.{dayOf}
-use Rattle.venue.specs.Reading.{Listed, AllListed}
+use Rattle.venue.specs.Reading.{ListedRule, ListedRules}
 use Rattle.day.specs.Governing.{precedence, marked, applies, takes, governingFrom, governing}
 use Rattle.day.specs.Meaning.{Stands, ruled}
 use Rattle.day.specs.declared.Governed.{Governed}
@@ -49,7 +49,7 @@ module _ (r : Rule) (d : ℕ) where
 
 -- ---- whether the rule at a place takes the place of the best so far
 
-pub stands-by : {best : Governed} {p : ℕ} → best ≡ By p → (s : List ℕ) → Stands s best → Listed 3 s p
+pub stands-by : {best : Governed} {p : ℕ} → best ≡ By p → (s : List ℕ) → Stands s best → ListedRule s p
 stands-by z s h = rw z at h
 
 module _ (s : List ℕ) (best : Governed) (at d : ℕ) {on : Bool} (a : on ≡ applies (ruleAt s at) d) where
@@ -106,7 +106,7 @@ module _ {s rules : List ℕ} {d : ℕ} {best : Governed} {i : ℕ} (c : Choosin
     unfolding governingFrom
     step = rw (add-one i) (sym (ap (λ (l : List ℕ). governingFrom (ruled s best) (map (ruleAt s) l) d) (drop-cons rules i 0 h)) ∙ c .same)
 
-    pub choose-one : {now : Governed} {t : Bool} → AllListed 3 s rules → t ≡ takes (ruled s best) here d → t ≡ true → now ≡ By (getD rules i 0)
+    pub choose-one : {now : Governed} {t : Bool} → ListedRules s rules → t ≡ takes (ruled s best) here d → t ≡ true → now ≡ By (getD rules i 0)
         → Choosing s rules d now (i + 1)
     choose-one {now} l t y e =
         rw e

@@ -12,8 +12,8 @@ use Rattle.zone.specs.Zone.{Zone}
 use Rattle.records.specs.Limits.{base}
 use Rattle.records.specs.Records.{Point, Rule, ruleAt}
 use Rattle.records.specs.Book.{refusal, records}
-use Rattle.venue.specs.Opening.{rulesOf, places}
-use Rattle.venue.specs.Reading.{Listed, EachPoint, GoodRule}
+use Rattle.venue.specs.Opening.{rulesOf, rulePlaces}
+use Rattle.venue.specs.Reading.{EachPoint, GoodRule, ListedRule}
 use Rattle.venue.proofs.Laws.{good-rule, places-listed, rules-listed}
 use Rattle.spans.specs.Spans.{Span, keep, In}
 use Rattle.spans.specs.Timeline.{Edge, Venue, raised, cut, ofPoints, ofRule, spans}
@@ -26,7 +26,7 @@ use Rattle.day.proofs.Governs.{governs}
 -- where a rule stands in an accepted book
 pub record Source (s : List ℕ) (r : Rule) : Type 0 where
   pub place : ℕ
-  pub listed : Listed 3 s place
+  pub listed : ListedRule s place
   pub is : ruleAt s place ≡ r
 
 from-places : {A : Type 0} (f : ℕ → A) (ps : List ℕ) (i : ℕ) (r : A) → nth (map f ps) i ≡ some r → (i < length ps) × (f (getD ps i 0) ≡ r)
@@ -37,8 +37,8 @@ from-places f (p ∷ ps) (suc i) r e = let on = from-places f ps i r e in (omega
 pub governing-listed : (s : List ℕ) → refusal base s ≡ 0 → (d : ℕ) (r : Rule) → governing (rulesOf (records s)) d ≡ some r → Source s r
 governing-listed s e d r g =
     let k = governs (rulesOf (records s)) d r g in
-    let on = from-places (ruleAt s) (places 3 s) (k .place) r (ap (λ (rs : List Rule). nth rs (k .place)) (rules-listed s e) ∙ k .listed) in
-    record { place = getD (places 3 s) (k .place) 0; listed = places-listed 3 s e (k .place) (on .0); is = on .1 }
+    let on = from-places (ruleAt s) (rulePlaces s) (k .place) r (ap (λ (rs : List Rule). nth rs (k .place)) (rules-listed s e) ∙ k .listed) in
+    record { place = getD (rulePlaces s) (k .place) 0; listed = places-listed 3 s e (k .place) (on .0); is = on .1 }
 
 pub source-good : (s : List ℕ) (r : Rule) → Source s r → GoodRule r
 source-good s r k = subst GoodRule (k .is) (good-rule s (k .place) (k .listed))

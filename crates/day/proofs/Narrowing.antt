@@ -14,7 +14,7 @@ use lib.Seq.{drop-cons, drop-length}
 use Rattle.wire.specs.Fields.{wrote}
 use Rattle.records.specs.Records.{Rule, ruleAt}
 use Rattle.venue.specs.Opening.{dayOf}
-use Rattle.venue.specs.Reading.{AllListed}
+use Rattle.venue.specs.Reading.{ListedRules}
 use Rattle.venue.proofs.Passing.{Storing, storing-start, storing-one, storing-end}
 use Rattle.day.specs.Governing.{applies, takes, governingFrom, governing}
 use Rattle.day.specs.Narrowing.{meets, nearOf}
@@ -68,12 +68,12 @@ module _ (s : List ℕ) (from to : ℕ) where
       go true m = omega arith
       go false m = omega arith
 
-  pub near-listed : (ps : List ℕ) → AllListed 3 s ps → AllListed 3 s (nearOf s ps from to)
+  pub near-listed : (ps : List ℕ) → ListedRules s ps → ListedRules s (nearOf s ps from to)
   unfolding nearOf
   near-listed [] a = λ i h. absurd (omega arith)
   near-listed (p ∷ ps) a = go (meets (ruleAt s p) from to) (near-listed ps (λ i h. a (suc i) (omega arith)))
     where
-      go : (q : Bool) → AllListed 3 s (nearOf s ps from to) → AllListed 3 s (cond q (p ∷ nearOf s ps from to) (nearOf s ps from to))
+      go : (q : Bool) → ListedRules s (nearOf s ps from to) → ListedRules s (cond q (p ∷ nearOf s ps from to) (nearOf s ps from to))
       go true b zero h = a 0 (omega arith)
       go true b (suc i) h = b i (le-of-suc-le-suc h)
       go false b i h = b i h

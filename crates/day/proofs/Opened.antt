@@ -5,7 +5,7 @@ use Prim.Native.Nat.{ℕ}
 use lib.ListN.{take}
 use Rattle.records.specs.Records.{Rule, Event}
 use Rattle.records.specs.Book.{records}
-use Rattle.venue.specs.Opening.{atsOf, offsetsOf, places}
+use Rattle.venue.specs.Opening.{atsOf, offsetsOf, rulePlaces, eventPlaces}
 use Rattle.venue.specs.Filled.{Filled}
 use Rattle.venue.specs.declared.opened.Header.{Header}
 use Rattle.venue.specs.declared.opened.Opened.{Opened}
@@ -17,9 +17,9 @@ use Rattle.day.specs.Days.{Values, valuesOf}
 use Rattle.day.specs.Meaning.{valuesAt}
 
 pub opened-values : (s : List ℕ) (h : Header) (k : Known s h)
-    → valuesAt s h (atsOf (records s)) (offsetsOf (records s)) (places 3 s) (places 4 s) ≡ valuesOf (records s) (k .covered)
+    → valuesAt s h (atsOf (records s)) (offsetsOf (records s)) (rulePlaces s) (eventPlaces s) ≡ valuesOf (records s) (k .covered)
 opened-values s h k =
-    ap (λ (x : Header). valuesAt s x (atsOf (records s)) (offsetsOf (records s)) (places 3 s) (places 4 s)) (k .header)
+    ap (λ (x : Header). valuesAt s x (atsOf (records s)) (offsetsOf (records s)) (rulePlaces s) (eventPlaces s)) (k .header)
     ∙ ap₂ (λ (rs : List Rule) (es : List Event). values rs es) (rules-listed s (k .accepted)) (events-listed s (k .accepted))
   where
     values : List Rule → List Event → Values

@@ -13,7 +13,7 @@ use Rattle.spans.specs.Timeline.{Edge, Venue, Part, raised, between, cut, ofPoi
 use Rattle.spans.proofs.Lists.{before}
 use Rattle.spans.proofs.Walking.{spans-within}
 use Rattle.day.specs.Days.{Held, venueBy, after}
-use Rattle.venue.specs.Reading.{Listed}
+use Rattle.venue.specs.Reading.{ListedRule}
 use Rattle.day.specs.Meaning.{held, heldBy, begun, Placed, Stands}
 use Rattle.day.specs.declared.Governed.{Governed}
 use Rattle.day.specs.declared.Governed.the-variants.{By}
@@ -55,7 +55,7 @@ module _ (z : Zone) (g : ℕ → Option Rule) (d t : ℕ) where
   unfolding spans
   day-some r e o q = q ∙ ap (after t) (points-same z (λ x. none) g r d (r .points) ∙ sym (ap (ofRule (venueBy z g) d) e))
 
-pub stands-at : (s : List ℕ) {r : Governed} {p : ℕ} → Stands s r → r ≡ By p → Listed 3 s p
+pub stands-at : (s : List ℕ) {r : Governed} {p : ℕ} → Stands s r → r ≡ By p → ListedRule s p
 stands-at s h e = subst (Stands s) e h
 
 -- ---- a span starts where its start boundary stands

@@ -6,7 +6,7 @@ use mathlib.Core.Bool.{cond}
 use lib.Dec.{leb}
 use Rattle.zone.specs.Zone.{zoneOf}
 use Rattle.records.specs.Records.{Rule, ruleAt, eventAt}
-use Rattle.venue.specs.Reading.{Listed}
+use Rattle.venue.specs.Reading.{ListedRule}
 use Rattle.venue.specs.declared.opened.Header.{Header}
 use Rattle.day.specs.Governing.{governing}
 use Rattle.day.specs.Days.{Values, Held}
@@ -33,7 +33,7 @@ ruled s (By p) = some (ruleAt s p)
 -- a rule stands where an answer says
 abbrev pub Stands : List ℕ → Governed → Type 0
 Stands s Nothing = Unit {0}
-Stands s (By p) = Listed 3 s p
+Stands s (By p) = ListedRule s p
 
 abbrev pub heldBy : List ℕ → Segment → Held
 heldBy s g = record { start = g .start; end = g .end; phase = g .phase; rule = ruleAt s (g .rule) }
@@ -45,7 +45,7 @@ held s (Whole g) = some (heldBy s g)
 -- a rule stands where a segment says
 abbrev pub Placed : List ℕ → Spanned → Type 0
 Placed s Missing = Unit {0}
-Placed s (Whole g) = Listed 3 s (g .rule)
+Placed s (Whole g) = ListedRule s (g .rule)
 
 -- a span, if it has begun at t
 abbrev pub begun : Spanned → ℕ → Spanned

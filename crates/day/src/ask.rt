@@ -5,7 +5,7 @@ ghost use Prim.Native.Nat.{_-_};
 ghost use Rattle.zone.specs.Zone.{zoneOf};
 ghost use Rattle.zone.specs.Answers.{Valid};
 ghost use Rattle.records.specs.Records.{ruleAt};
-ghost use Rattle.venue.specs.Reading.{AllListed};
+ghost use Rattle.venue.specs.Reading.{ListedRules};
 ghost use Rattle.spans.specs.Spans.{look};
 ghost use Rattle.spans.specs.Timeline.{spans, pointAt};
 ghost use Rattle.day.specs.Governing.{governing as Governing·governing};
@@ -29,7 +29,7 @@ pub fn day_span_after(
     d: Day,
     t: Instant,
 ) -> Spanned
-    requires { ⌜ Valid first (now ats) (now offsets) × AllListed 3 (now book) (now rules) ⌝ }
+    requires { ⌜ Valid first (now ats) (now offsets) × ListedRules (now book) (now rules) ⌝ }
     ensures { λ r. ⌜ (held (now (book .entry)) r
         ≡ after (t .0) (spans (venueBy (zoneOf first (now (ats .entry)) (now (offsets .entry)))
         (Governing·governing (map (ruleAt (now (book .entry))) (now (rules .entry))))) (d .0)))
@@ -69,7 +69,7 @@ fn day_holding(
     d: Day,
     t: Instant,
 ) -> Spanned
-    requires { ⌜ Valid first (now ats) (now offsets) × AllListed 3 (now book) (now rules) ⌝ }
+    requires { ⌜ Valid first (now ats) (now offsets) × ListedRules (now book) (now rules) ⌝ }
     ensures { λ r. ⌜ (held (now (book .entry)) r
         ≡ look (λ (h : Held). h) (spans (venueBy (zoneOf first (now (ats .entry)) (now (offsets .entry)))
         (Governing·governing (map (ruleAt (now (book .entry))) (now (rules .entry))))) (d .0)) (t .0))
@@ -99,7 +99,7 @@ pub fn point(
     rules: &[u32],
     t: Instant,
 ) -> Spanned
-    requires { ⌜ Valid first (now ats) (now offsets) × AllListed 3 (now book) (now rules) ⌝ }
+    requires { ⌜ Valid first (now ats) (now offsets) × ListedRules (now book) (now rules) ⌝ }
     ensures { λ r. ⌜ (held (now (book .entry)) r
         ≡ pointAt (λ (h : Held). h) (venueBy (zoneOf first (now (ats .entry)) (now (offsets .entry)))
         (Governing·governing (map (ruleAt (now (book .entry))) (now (rules .entry))))) (record { start = start .0; end = end .0 }) (t .0))

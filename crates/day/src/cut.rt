@@ -7,15 +7,15 @@ ghost use lib.Dec.{ltb};
 ghost use Rattle.zone.specs.Zone.{zoneOf};
 ghost use Rattle.zone.specs.Answers.{Valid, boundaryAt};
 ghost use Rattle.records.specs.Records.{ruleAt};
-ghost use Rattle.venue.specs.Reading.{Listed};
+ghost use Rattle.venue.specs.Reading.{ListedRule};
 ghost use Rattle.spans.specs.Timeline.{ofPoints};
 ghost use Rattle.day.specs.Days.{venueBy, after};
 ghost use Rattle.day.specs.Meaning.{held, Placed};
 use crate::Segment;
 use crate::Spanned;
-use book::MOST_POINTS;
 use calendar::Day;
 use calendar::LAST_DAY;
+use records::MOST_POINTS;
 use spans::later;
 use venue::point_phase;
 use venue::point_time;
@@ -82,7 +82,7 @@ pub fn span_after(
     d: Day,
     t: Instant,
 ) -> Spanned
-    requires { ⌜ Valid first (now ats) (now offsets) × Listed 3 (now book) rule ⌝ }
+    requires { ⌜ Valid first (now ats) (now offsets) × ListedRule (now book) rule ⌝ }
     ensures { λ r. ⌜ (held (now (book .entry)) r
         ≡ after (t .0) (ofPoints (venueBy (zoneOf first (now (ats .entry)) (now (offsets .entry))) (λ x. none))
         (ruleAt (now (book .entry)) rule) (d .0) (ruleAt (now (book .entry)) rule .points)))

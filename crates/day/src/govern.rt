@@ -3,7 +3,7 @@ ghost use mathlib.Core.Path.{_≡_};
 ghost use mathlib.Core.List.{map};
 ghost use Prim.Native.Nat.{_≤_};
 ghost use Rattle.records.specs.Records.{ruleAt};
-ghost use Rattle.venue.specs.Reading.{Listed, AllListed};
+ghost use Rattle.venue.specs.Reading.{ListedRule, ListedRules};
 ghost use Rattle.day.specs.Governing.{precedence as Governing·precedence, marked as Governing·marked, applies as Governing·applies, takes as Governing·takes, governing as Governing·governing};
 ghost use Rattle.day.specs.Meaning.{Stands, ruled};
 use crate::Governed;
@@ -34,7 +34,7 @@ fn marked(mask: u8, weekday: u8) -> bool
 }
 
 fn applies(book: &[u8], at: usize, d: Day) -> bool
-    requires { ⌜ Listed 3 (now book) at ⌝ }
+    requires { ⌜ ListedRule (now book) at ⌝ }
     ensures { λ r. ⌜ r ≡ Governing·applies (ruleAt (now (book .entry)) at) (d .0) ⌝ }
 {
     if d.0 < rule_first(book, at).0 {
@@ -51,7 +51,7 @@ fn applies(book: &[u8], at: usize, d: Day) -> bool
 
 // Whether a rule takes the place of the best so far.
 fn takes(book: &[u8], best: Governed, at: usize, d: Day) -> bool
-    requires { ⌜ Listed 3 (now book) at × Stands (now book) best ⌝ }
+    requires { ⌜ ListedRule (now book) at × Stands (now book) best ⌝ }
     ensures { λ r. ⌜ r ≡ Governing·takes (ruled (now (book .entry)) best) (ruleAt (now (book .entry)) at) (d .0) ⌝ }
 {
     if !applies(book, at, d) {
@@ -72,7 +72,7 @@ fn takes(book: &[u8], best: Governed, at: usize, d: Day) -> bool
 
 // The rule that governs a date, of those that stand at the places given.
 pub fn governing(book: &[u8], rules: &[u32], d: Day) -> Governed
-    requires { ⌜ AllListed 3 (now book) (now rules) ⌝ }
+    requires { ⌜ ListedRules (now book) (now rules) ⌝ }
     ensures { λ r. ⌜ (ruled (now (book .entry)) r ≡ Governing·governing (map (ruleAt (now (book .entry))) (now (rules .entry))) (d .0))
         × Stands (now (book .entry)) r ⌝ }
 {

@@ -4,7 +4,7 @@ ghost use Prim.Native.Nat.{_≤_};
 ghost use lib.ListN.{length};
 ghost use Rattle.wire.specs.Fields.{wrote};
 ghost use Rattle.records.specs.Records.{ruleAt};
-ghost use Rattle.venue.specs.Reading.{Listed, AllListed};
+ghost use Rattle.venue.specs.Reading.{ListedRule, ListedRules};
 ghost use Rattle.day.specs.Narrowing.{meets as Narrowing·meets, nearOf};
 use calendar::Day;
 use venue::rule_first;
@@ -12,7 +12,7 @@ use venue::rule_last;
 
 // Whether a rule's days meet those from `from` to `to`.
 fn meets(book: &[u8], at: usize, from: Day, to: Day) -> bool
-    requires { ⌜ Listed 3 (now book) at ⌝ }
+    requires { ⌜ ListedRule (now book) at ⌝ }
     ensures { λ r. ⌜ r ≡ Narrowing·meets (ruleAt (now (book .entry)) at) (from .0) (to .0) ⌝ }
 {
     (rule_first(book, at).0 <= to.0) & (from.0 <= rule_last(book, at).0)
@@ -20,7 +20,7 @@ fn meets(book: &[u8], at: usize, from: Day, to: Day) -> bool
 
 // Of the rules at the places given, those that have a day from `from` to `to` among theirs, in order. Answers how many.
 pub fn near(book: &[u8], rules: &[u32], from: Day, to: Day, found: &mut [u32]) -> usize
-    requires { ⌜ AllListed 3 (now book) (now rules) × (length (now rules) ≤ length (now found)) ⌝ }
+    requires { ⌜ ListedRules (now book) (now rules) × (length (now rules) ≤ length (now found)) ⌝ }
     ensures { λ r. ⌜ (r ≡ length (nearOf (now (book .entry)) (now (rules .entry)) (from .0) (to .0)))
         × (now (found .exit) ≡ wrote (now (found .entry)) 0 (nearOf (now (book .entry)) (now (rules .entry)) (from .0) (to .0))) ⌝ }
 {

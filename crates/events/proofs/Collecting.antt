@@ -19,7 +19,7 @@ use Rattle.zone.specs.declared.steady.Steady.the-variants.{No, By}
 use Rattle.zone.proofs.Shifts.{in-date, steady-date, steady-boundary}
 use Rattle.records.specs.Records.{Event, eventAt}
 use Rattle.venue.specs.Opening.{dayOf}
-use Rattle.venue.specs.Reading.{Listed, AllListed, EachTime, published}
+use Rattle.venue.specs.Reading.{EachTime, published, ListedEvent, ListedEvents}
 use Rattle.venue.proofs.Laws.{good-event}
 use Rattle.events.specs.declared.Occurrence.{Occurrence}
 use Rattle.events.specs.declared.steady.Collected.{Collected}
@@ -31,9 +31,9 @@ use Rattle.events.proofs.Keeping.{dates-forward}
 -- an event stands at each of the places, one after the other
 abbrev EachListed : List ℕ → List ℕ → Type 0
 EachListed book [] = Unit {0}
-EachListed book (p ∷ ps) = Listed 4 book p × EachListed book ps
+EachListed book (p ∷ ps) = ListedEvent book p × EachListed book ps
 
-each-listed : (book events : List ℕ) → AllListed 4 book events → EachListed book events
+each-listed : (book events : List ℕ) → ListedEvents book events → EachListed book events
 each-listed book [] l = tt
 each-listed book (p ∷ ps) l = (l 0 (omega arith), each-listed book ps (λ i h. l (suc i) (omega arith)))
 
@@ -126,7 +126,7 @@ steady-span z from to o e = go (leb from to) refl e
     go true h i = (leb-true from to h, i)
     go false h i = let wrong : _≡_ {A = ℕ} 0 1 = cc in absurd (omega arith)
 
-kept-found : (book : List ℕ) (first : ℕ) (ats os events : List ℕ) → Valid first ats os → AllListed 4 book events → (from to o : ℕ)
+kept-found : (book : List ℕ) (first : ℕ) (ats os events : List ℕ) → Valid first ats os → ListedEvents book events → (from to o : ℕ)
     → steadyIn (zoneOf first ats os) from to ≡ By o
     → map (keptAs book) (keptBy book events from to (By o)) ≡ found (zoneOf first ats os) (map (eventAt book) events) from to
 unfolding found
@@ -149,7 +149,7 @@ each-also : (book : List ℕ) (ks ls : List Kept) → EachListed book (places ks
 each-also book [] ls p q = q
 each-also book (k ∷ ks) ls p q = (p .0, each-also book ks ls (p .1) q)
 
-each-time : (book : List ℕ) (from to m p : ℕ) (xs : List ℕ) → Listed 4 book p → EachListed book (places (keptTimes from to m p xs))
+each-time : (book : List ℕ) (from to m p : ℕ) (xs : List ℕ) → ListedEvent book p → EachListed book (places (keptTimes from to m p xs))
 unfolding keptTimes
 each-time book from to m p [] l = tt
 each-time book from to m p (x ∷ xs) l = go (leb from (m + x) && ltb (m + x) to) (each-time book from to m p xs l)
@@ -179,7 +179,7 @@ each-dates book ps o from to d (suc n) l =
     each-also book (keptDate book from to d (midnightBy o d) ps) (keptDates book ps o from to (suc d) n) (each-date book from to d (midnightBy o d) ps l)
     (each-dates book ps o from to (suc d) n l)
 
-there : (book ps rest : List ℕ) → EachListed book ps → (i : ℕ) → i < length ps → Listed 4 book (getD (ps ++ rest) i 0)
+there : (book ps rest : List ℕ) → EachListed book ps → (i : ℕ) → i < length ps → ListedEvent book (getD (ps ++ rest) i 0)
 there book [] rest l i h = absurd (not-suc-le-zero h)
 there book (p ∷ ps) rest l zero h = l .0
 there book (p ∷ ps) rest l (suc i) h = there book ps rest (l .1) i (le-of-suc-le-suc h)
@@ -204,9 +204,9 @@ front f ks a h =
 pub record Holds (book a b a′ b′ : List ℕ) (n : ℕ) (os : List Occurrence) : Type 0 where
   pub count : n ≡ length os
   pub same : n ≤ length a → n ≤ length b → listed (keptOf book a′ b′) 0 n ≡ os
-  pub there : n ≤ length b → (i : ℕ) → i < n → Listed 4 book (getD b′ i 0)
+  pub there : n ≤ length b → (i : ℕ) → i < n → ListedEvent book (getD b′ i 0)
 
-pub collects-all : (book : List ℕ) (first : ℕ) (ats os events : List ℕ) → Valid first ats os → AllListed 4 book events
+pub collects-all : (book : List ℕ) (first : ℕ) (ats os events : List ℕ) → Valid first ats os → ListedEvents book events
     → (from to : ℕ) {a b a′ b′ : List ℕ} {r : Collected} {n : ℕ}
     → Collects (steadyIn (zoneOf first ats os) from to) book events from to a b r a′ b′ → r ≡ All n
     → Holds book a b a′ b′ n (found (zoneOf first ats os) (map (eventAt book) events) from to)
@@ -231,7 +231,7 @@ collects-all book first ats os events v l from to {a} {b} {a′} {b′} {r} {n} 
               ∙ read-back book ks (drop (length ks) a) (drop (length ks) b)
               ∙ found-by;
           there = λ h i j.
-              subst (λ (y : List ℕ). Listed 4 book (getD y i 0)) (sym (places-front h))
+              subst (λ (y : List ℕ). ListedEvent book (getD y i 0)) (sym (places-front h))
               (there book (places ks) (drop (length ks) b) (each-dates book events o from to (dayBy o from) (suc (dayBy o to - dayBy o from)) (each-listed book events l)) i
               (omega (arith, length-map ks (λ (j : Kept). j .place))));
         }

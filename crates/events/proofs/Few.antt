@@ -12,9 +12,10 @@ use Rattle.zone.proofs.Domain.{date-small}
 use Rattle.zone.proofs.Offsets.{offset-most}
 use Rattle.records.specs.Records.{Event, eventAt}
 use Rattle.venue.specs.Opening.{dayOf}
-use Rattle.venue.specs.Reading.{Listed, AllListed}
+use Rattle.venue.specs.Reading.{ListedEvent, ListedEvents}
 use Rattle.venue.proofs.Laws.{good-event}
-use Rattle.events.specs.Happenings.{happens, occurrence, onTimes, onDate, onDates, found}
+use Rattle.records.specs.Limits.{base}
+use Rattle.events.specs.Happenings.{happens, occurrence, onTimes, onDate, onDates, found, mostInSpan, mostOnDate}
 
 -- each has at most 8 times
 abbrev FewTimes : List Event → Type 0
@@ -42,7 +43,7 @@ module _ (z : Zone) (from to : ℕ) where
       go true h = omega (arith, length-append (onTimes z from to d e (e .times)) (onDate z from to d es), times-few d e (e .times), f .0)
       go false h = omega arith
 
-  dates-few : (es : List Event) → FewTimes es → (d n : ℕ) → length es ≤ 32 → length (onDates z from to es d n) ≤ 256 * n
+  dates-few : (es : List Event) → FewTimes es → (d n : ℕ) → length es ≤ base .events → length (onDates z from to es d n) ≤ mostOnDate * n
   unfolding onDates
   dates-few es f d zero h = omega arith
   dates-few es f d (suc n) h =
@@ -58,34 +59,34 @@ dates-near first ats offsets v from to h =
     omega arith
 
 -- the events of an accepted book
-book-few : (s places : List ℕ) → ((i : ℕ) → i < length places → Listed 4 s (getD places i 0)) → FewTimes (map (eventAt s) places)
+book-few : (s places : List ℕ) → ((i : ℕ) → i < length places → ListedEvent s (getD places i 0)) → FewTimes (map (eventAt s) places)
 book-few s [] l = tt
 book-few s (p ∷ ps) l = (good-event s p (l 0 (omega arith)) .few, book-few s ps (λ i h. l (suc i) (omega arith)))
 
 -- whatever the span
-pub found-few : (s : List ℕ) (first : ℕ) (ats offsets events : List ℕ) → Valid first ats offsets → AllListed 4 s events → length events ≤ 32
+pub found-few : (s : List ℕ) (first : ℕ) (ats offsets events : List ℕ) → Valid first ats offsets → ListedEvents s events → length events ≤ base .events
     → (from to : ℕ) → length (found (zoneOf first ats offsets) (map (eventAt s) events) from to) ≤ 2 ^ 25
 unfolding found
 found-few s first ats offsets events v a l from to =
     let z = zoneOf first ats offsets in
     let es = map (eventAt s) events in
-    let m : length es ≤ 32 = omega (arith, length-map events (eventAt s)) in
+    let m : length es ≤ base .events = omega (arith, length-map events (eventAt s)) in
     by-dates (dateAt z from) (dateAt z to) _ (date-small first ats offsets to v)
     (dates-few z from to es (book-few s events a) (dateAt z from) (suc (dateAt z to - dateAt z from)) m)
   where
-    by-dates : (d e n : ℕ) → e < 2 ^ 17 → n ≤ 256 * suc (e - d) → n ≤ 2 ^ 25
+    by-dates : (d e n : ℕ) → e < 2 ^ 17 → n ≤ mostOnDate * suc (e - d) → n ≤ 2 ^ 25
     by-dates d e n i j = omega arith
 
 -- of at most 56 hours
-pub few : (s : List ℕ) (first : ℕ) (ats offsets events : List ℕ) → Valid first ats offsets → AllListed 4 s events → length events ≤ 32
-    → (from to : ℕ) → to ≤ from + (dayNs + mostNs + mostNs) → length (found (zoneOf first ats offsets) (map (eventAt s) events) from to) ≤ 1280
+pub few : (s : List ℕ) (first : ℕ) (ats offsets events : List ℕ) → Valid first ats offsets → ListedEvents s events → length events ≤ base .events
+    → (from to : ℕ) → to ≤ from + (dayNs + mostNs + mostNs) → length (found (zoneOf first ats offsets) (map (eventAt s) events) from to) ≤ mostInSpan
 unfolding found
 few s first ats offsets events v a l from to h =
     let z = zoneOf first ats offsets in
     let es = map (eventAt s) events in
-    let m : length es ≤ 32 = omega (arith, length-map events (eventAt s)) in
+    let m : length es ≤ base .events = omega (arith, length-map events (eventAt s)) in
     by-dates (dateAt z from) (dateAt z to) _ (dates-near first ats offsets v from to h)
     (dates-few z from to es (book-few s events a) (dateAt z from) (suc (dateAt z to - dateAt z from)) m)
   where
-    by-dates : (d e n : ℕ) → e ≤ d + 4 → n ≤ 256 * suc (e - d) → n ≤ 1280
+    by-dates : (d e n : ℕ) → e ≤ d + 4 → n ≤ mostOnDate * suc (e - d) → n ≤ mostInSpan
     by-dates d e n i j = omega arith

@@ -14,11 +14,12 @@ use Rattle.zone.specs.declared.Uncertainty.{Uncertainty}
 use Rattle.records.specs.Records.{Event, eventAt}
 use Rattle.venue.specs.Opening.{dayOf}
 use Rattle.venue.specs.Reading.{published}
+use Rattle.records.specs.Limits.{base}
 use Rattle.events.specs.declared.Occurrence.{Occurrence}
 use Rattle.events.specs.declared.Best.{Best}
 use Rattle.events.specs.declared.Best.the-variants.{Some}
 use Rattle.events.specs.declared.Search.{Search}
-use Rattle.events.specs.Happenings.{occurrence, happens, onTimes, onDate, onDates, found}
+use Rattle.events.specs.Happenings.{occurrence, happens, onTimes, onDate, onDates, found, mostOnDate}
 use Rattle.events.specs.Seeking.{fromHere, better, met, sought}
 
 -- ---- one event
@@ -110,7 +111,7 @@ module _ (z : Zone) (from to d : ℕ) (e : Event) where
         pass-one p h read (time-out t x xs (ap (happens from to) (sym made) ∙ y) ∙ ap (λ (a : Search). sought a (onTimes z from to d e xs)) (sym q)) (omega arith)
 
   pub times-end : {s t : Search} {i : ℕ} → Timing s t i → length (e .times) ≤ i → i ≤ 8
-      → (t ≡ sought s (onTimes z from to d e (e .times))) × (t .count ≤ s .count + 8)
+      → (t ≡ sought s (onTimes z from to d e (e .times))) × (t .count ≤ s .count + base .times)
   unfolding onTimes
   times-end p h few = let w = pass-end refl p h in (w .0, omega (arith, w .1))
 
@@ -157,8 +158,8 @@ module _ (z : Zone) (from to d : ℕ) (book places : List ℕ) where
           let n = count-by q in
           pass-one on h read (event-out t (eventAt book p) rest (dated p first-read last-read y) ∙ ap (λ (w : Search). sought w (onDate z from to d rest)) (sym q)) (omega arith)
 
-  pub events-end : {s t : Search} {i : ℕ} → Dating s t i → length places ≤ i → i ≤ 32
-      → (t ≡ sought s (onDate z from to d (map (eventAt book) places))) × (t .count ≤ s .count + 256)
+  pub events-end : {s t : Search} {i : ℕ} → Dating s t i → length places ≤ i → i ≤ base .events
+      → (t ≡ sought s (onDate z from to d (map (eventAt book) places))) × (t .count ≤ s .count + mostOnDate)
   unfolding onDate
   events-end on h few = let w = pass-end refl on h in (w .0, omega (arith, w .1))
 
@@ -169,7 +170,7 @@ module _ (z : Zone) (from to : ℕ) (es : List Event) (a b : ℕ) where
     pub low : a ≤ date
     pub high : date ≤ max a b
     pub same : sought s (onDates z from to es (suc a) (b - a)) ≡ sought t (onDates z from to es (suc date) (b - date))
-    pub few : t .count ≤ 256 * (date - a + 1)
+    pub few : t .count ≤ mostOnDate * (date - a + 1)
 
   date-in : (t : Search) (d n : ℕ) → sought t (onDates z from to es d (suc n)) ≡ sought (sought t (onDate z from to d es)) (onDates z from to es (suc d) n)
   unfolding onDates
@@ -195,7 +196,7 @@ module _ (z : Zone) (from to : ℕ) (es : List Event) (a b : ℕ) where
         few = omega (arith, p .few, p .low);
       }
 
-  pub dates-few : {s t : Search} {date : ℕ} → Spanning s t date → t .count ≤ 256 * (b + 1)
+  pub dates-few : {s t : Search} {date : ℕ} → Spanning s t date → t .count ≤ mostOnDate * (b + 1)
   dates-few p = omega (arith, p .low, p .high, p .few)
 
   pub dates-end : (none : Search) {s t : Search} {date : ℕ} → s ≡ sought none (onDate z from to a es) → Spanning s t date → b ≤ date

@@ -12,6 +12,7 @@ use Rattle.venue.specs.Opening.{dayOf}
 use Rattle.zone.specs.Units.{lastInstant}
 use Rattle.zone.specs.Steady.{dayBy, midnightBy, OnWall, DayOnWall}
 use Rattle.events.specs.Keeping.{Kept, instants, places, keptTimes, keptDate, keptDates, Keeps}
+use Rattle.events.specs.Happenings.{mostOnDate}
 
 -- ---- one after the other
 
@@ -132,7 +133,7 @@ module _ (book events : List ℕ) (o from to a b : ℕ) where
   pub record Dating (x y x′ y′ : List ℕ) (n date : ℕ) : Type 0 where
     pub low : a ≤ date
     pub high : date ≤ suc b
-    pub few : n ≤ 256 * (date - a)
+    pub few : n ≤ mostOnDate * (date - a)
     pub long : (length x′ ≡ length x) × (length y′ ≡ length y)
     pub ahead : (c d : List ℕ) (r : ℕ) → Keeps x′ y′ n (keptDates book events o from to date (suc b - date)) c d r
         → Keeps x y 0 (keptDates book events o from to a (suc b - a)) c d r

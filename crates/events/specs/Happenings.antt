@@ -1,5 +1,5 @@
 -- The events of a span: document 01, phase rule 6. Assumes nothing.
-use Prim.Native.Nat.{ℕ, zero, suc, _-_}
+use Prim.Native.Nat.{ℕ, zero, suc, _-_, _*_}
 use mathlib.Core.Bool.{Bool, cond, _&&_}
 use mathlib.Core.List.{List, [], _∷_, _++_}
 use lib.Dec.{leb, ltb}
@@ -8,6 +8,7 @@ use Rattle.zone.specs.Answers.{boundaryAt}
 use Rattle.records.specs.Records.{Event}
 use Rattle.venue.specs.Opening.{dayOf}
 use Rattle.venue.specs.Reading.{published}
+use Rattle.records.specs.Limits.{base}
 use Rattle.events.specs.declared.Occurrence.{Occurrence}
 
 -- an event at a time of a date
@@ -40,6 +41,13 @@ onDates z from to es d (suc n) = onDate z from to d es ++ onDates z from to es (
 -- from the date of the span's start to that of its end; only the start's, if the end's is earlier
 unfoldable pub found : Zone → List Event → ℕ → ℕ → List Occurrence
 found z es from to = onDates z from to es (dateAt z from) (suc (dateAt z to - dateAt z from))
+
+-- at most so many on a date, and in a span that meets at most five dates
+abbrev pub mostOnDate : ℕ
+mostOnDate = base .events * base .times
+
+abbrev pub mostInSpan : ℕ
+mostInSpan = 5 * mostOnDate
 
 -- in front of those that are not earlier
 unfoldable pub insert : Occurrence → List Occurrence → List Occurrence

@@ -7,8 +7,9 @@ ghost use lib.ListN.{length};
 ghost use Rattle.zone.specs.Zone.{zoneOf};
 ghost use Rattle.zone.specs.Answers.{Valid};
 ghost use Rattle.records.specs.Records.{eventAt};
-ghost use Rattle.venue.specs.Reading.{Listed, AllListed};
-ghost use Rattle.events.specs.Happenings.{occurrence as Happenings·occurrence, happens as Happenings·happens, onTimes, onDate, found};
+ghost use Rattle.venue.specs.Reading.{ListedEvent, ListedEvents};
+ghost use Rattle.records.specs.Limits.{base};
+ghost use Rattle.events.specs.Happenings.{occurrence as Happenings·occurrence, happens as Happenings·happens, onTimes, onDate, found, mostOnDate};
 ghost use Rattle.events.specs.Seeking.{met as Seeking·met, sought, begin, better as Seeking·better};
 use crate::Best;
 use crate::Collected;
@@ -36,7 +37,7 @@ fn occurrence(
     d: Day,
     time: u64,
 ) -> Occurrence
-    requires { ⌜ Valid first (now ats) (now offsets) × Listed 4 (now book) event ⌝ }
+    requires { ⌜ Valid first (now ats) (now offsets) × ListedEvent (now book) event ⌝ }
     ensures { λ r. ⌜ r ≡ Happenings·occurrence (zoneOf first (now (ats .entry)) (now (offsets .entry))) (d .0) (eventAt (now (book .entry)) event) time ⌝ }
 {
     let boundary = to_utc_at(first, ats, offsets, d, time, event_uncertainty(book, event));
@@ -105,11 +106,11 @@ fn on_times(
     to: Instant,
     s: Search,
 ) -> Search
-    requires { ⌜ Valid first (now ats) (now offsets) × Listed 4 (now book) event × (s .count ≤ 2 ^ 62) ⌝ }
+    requires { ⌜ Valid first (now ats) (now offsets) × ListedEvent (now book) event × (s .count ≤ 2 ^ 62) ⌝ }
     ensures { λ r.
         ⌜ (r ≡ sought s (onTimes (zoneOf first (now (ats .entry)) (now (offsets .entry))) (from .0) (to .0) (d .0)
         (eventAt (now (book .entry)) event) (eventAt (now (book .entry)) event .times)))
-        × (r .count ≤ s .count + 8) ⌝ }
+        × (r .count ≤ s .count + base .times) ⌝ }
 {
     let times = event_times(book, event);
     let mut so_far = s;
@@ -144,11 +145,11 @@ fn on_date(
     to: Instant,
     s: Search,
 ) -> Search
-    requires { ⌜ Valid first (now ats) (now offsets) × AllListed 4 (now book) (now events) × (length (now events) ≤ 32) × (s .count ≤ 2 ^ 61) ⌝ }
+    requires { ⌜ Valid first (now ats) (now offsets) × ListedEvents (now book) (now events) × (length (now events) ≤ base .events) × (s .count ≤ 2 ^ 61) ⌝ }
     ensures { λ r.
         ⌜ (r ≡ sought s (onDate (zoneOf first (now (ats .entry)) (now (offsets .entry))) (from .0) (to .0) (d .0)
         (map (eventAt (now (book .entry))) (now (events .entry)))))
-        × (r .count ≤ s .count + 256) ⌝ }
+        × (r .count ≤ s .count + mostOnDate) ⌝ }
 {
     let mut so_far = s;
     let mut i: usize = 0;
@@ -175,7 +176,7 @@ pub fn search_events(
     at: Instant,
     index: usize,
 ) -> Search
-    requires { ⌜ Valid first (now ats) (now offsets) × AllListed 4 (now book) (now events) × (length (now events) ≤ 32) ⌝ }
+    requires { ⌜ Valid first (now ats) (now offsets) × ListedEvents (now book) (now events) × (length (now events) ≤ base .events) ⌝ }
     ensures { λ r.
         ⌜ (r ≡ sought (begin (at .0) index) (found (zoneOf first (now (ats .entry)) (now (offsets .entry)))
         (map (eventAt (now (book .entry))) (now (events .entry))) (from .0) (to .0)))
@@ -218,7 +219,7 @@ pub fn count_events(
     from: Instant,
     to: Instant,
 ) -> usize
-    requires { ⌜ Valid first (now ats) (now offsets) × AllListed 4 (now book) (now events) × (length (now events) ≤ 32) ⌝ }
+    requires { ⌜ Valid first (now ats) (now offsets) × ListedEvents (now book) (now events) × (length (now events) ≤ base .events) ⌝ }
     ensures { λ r.
         ⌜ (r ≡ length (found (zoneOf first (now (ats .entry)) (now (offsets .entry))) (map (eventAt (now (book .entry))) (now (events .entry))) (from .0) (to .0)))
         × (r ≤ 2 ^ 25) ⌝ }

@@ -7,8 +7,10 @@ ghost use Rattle.zone.specs.Zone.{zoneOf};
 ghost use Rattle.zone.specs.Answers.{Valid};
 ghost use Rattle.zone.specs.Steady.{dayBy, OnWall};
 ghost use Rattle.records.specs.Records.{eventAt};
-ghost use Rattle.venue.specs.Reading.{Listed, AllListed};
+ghost use Rattle.venue.specs.Reading.{ListedEvent, ListedEvents};
+ghost use Rattle.records.specs.Limits.{base};
 ghost use Rattle.events.specs.Keeping.{Keeps, Collects, Next, keptTimes, keptDate, keptDates, steadyIn};
+ghost use Rattle.events.specs.Happenings.{mostOnDate};
 use calendar::Day;
 use venue::event_first;
 use venue::event_last;
@@ -51,12 +53,12 @@ fn on_steady_times(
     which: &mut [u32],
     n: usize,
 ) -> usize
-    requires { ⌜ Listed 4 (now book) place × (midnight .0 ≤ lastInstant) × (n ≤ 2 ^ 62) ⌝ }
+    requires { ⌜ ListedEvent (now book) place × (midnight .0 ≤ lastInstant) × (n ≤ 2 ^ 62) ⌝ }
     ensures { λ r.
         ⌜ Keeps (now (when .entry)) (now (which .entry)) n
         (keptTimes (from .0) (to .0) (midnight .0) place (eventAt (now (book .entry)) place .times))
         (now (when .exit)) (now (which .exit)) r
-        × (r ≤ n + 8) ⌝ }
+        × (r ≤ n + base .times) ⌝ }
 {
     let event = place as usize;
     let times = event_times(book, event);
@@ -84,12 +86,12 @@ fn on_steady_date(
     which: &mut [u32],
     n: usize,
 ) -> usize
-    requires { ⌜ AllListed 4 (now book) (now events) × (length (now events) ≤ 32) × (midnight .0 ≤ lastInstant) × (n ≤ 2 ^ 61) ⌝ }
+    requires { ⌜ ListedEvents (now book) (now events) × (length (now events) ≤ base .events) × (midnight .0 ≤ lastInstant) × (n ≤ 2 ^ 61) ⌝ }
     ensures { λ r.
         ⌜ Keeps (now (when .entry)) (now (which .entry)) n
         (keptDate (now (book .entry)) (from .0) (to .0) (d .0) (midnight .0) (now (events .entry)))
         (now (when .exit)) (now (which .exit)) r
-        × (r ≤ n + 256) ⌝ }
+        × (r ≤ n + mostOnDate) ⌝ }
 {
     let mut count = n;
     let mut i: usize = 0;
@@ -114,7 +116,7 @@ fn on_steady_dates(
     when: &mut [u64],
     which: &mut [u32],
 ) -> usize
-    requires { ⌜ AllListed 4 (now book) (now events) × (length (now events) ≤ 32) × OnWall offset (from .0) × OnWall offset (to .0) × (from .0 ≤ to .0) ⌝ }
+    requires { ⌜ ListedEvents (now book) (now events) × (length (now events) ≤ base .events) × OnWall offset (from .0) × OnWall offset (to .0) × (from .0 ≤ to .0) ⌝ }
     ensures { λ r.
         ⌜ Keeps (now (when .entry)) (now (which .entry)) 0
         (keptDates (now (book .entry)) (now (events .entry)) offset (from .0) (to .0) (dayBy offset (from .0))
@@ -147,7 +149,7 @@ pub fn collect(
     when: &mut [u64],
     which: &mut [u32],
 ) -> Collected
-    requires { ⌜ Valid first (now ats) (now offsets) × AllListed 4 (now book) (now events) × (length (now events) ≤ 32) ⌝ }
+    requires { ⌜ Valid first (now ats) (now offsets) × ListedEvents (now book) (now events) × (length (now events) ≤ base .events) ⌝ }
     ensures { λ r.
         ⌜ Collects (steadyIn (zoneOf first (now (ats .entry)) (now (offsets .entry))) (from .0) (to .0)) (now (book .entry)) (now (events .entry)) (from .0) (to .0)
         (now (when .entry)) (now (which .entry)) r (now (when .exit)) (now (which .exit)) ⌝ }

@@ -10,12 +10,15 @@ use borrow.Author.Tests.{eqb-true}
 use lib.Dec.{eqb}
 use Rattle.spans.specs.Spans.{Span, sameMark, joins, joinedSpan, joinFrom, joined}
 use Rattle.events.specs.declared.Occurrence.{Occurrence}
-use Rattle.answer.specs.Forms.{Form, phase, encode, encodeAll, allFields}
+use Rattle.answer.specs.Forms.{Form, phase, encode, encodeAll, allFields, phaseSize, eventSize}
 use Rattle.answer.specs.Meaning.{phaseOf}
 use Rattle.answer.specs.declared.Phase.{Phase}
 use Rattle.answer.proofs.Several.{encode-append}
 use Rattle.tell.specs.Shown.{Shown, headOf, eventForm}
 use Rattle.tell.proofs.Trailing.{events-length}
+use Rattle.events.specs.Happenings.{mostInSpan}
+use Rattle.records.specs.Limits.{base}
+use Rattle.spans.specs.Timeline.{turns}
 use Rattle.joining.specs.Joining.{phases}
 use Rattle.joining.specs.Walked.{phaseForms}
 use Rattle.joining.specs.Amending.{joinsLast, joinedHead}
@@ -40,7 +43,7 @@ eventBytes s = encodeAll (map eventForm (s .body .events))
 abbrev pub bytesOf : List (Span Shown) → List ℕ
 bytesOf ss = encodeAll (phaseForms ss)
 
-pub head-length : (p : Phase) → length (encode (phase (phaseOf p))) ≡ 105
+pub head-length : (p : Phase) → length (encode (phase (phaseOf p))) ≡ phaseSize
 unfolding encode
 head-length p = laid-length (allFields (phase (phaseOf p)))
 
@@ -48,7 +51,7 @@ pub bytes-cons : (s : Span Shown) (ss : List (Span Shown)) → bytesOf (s ∷ ss
 unfolding phaseForms encodeAll
 bytes-cons s ss = ap (λ (x : List ℕ). headBytes s ++ x) (encode-append (map eventForm (s .body .events)) (phaseForms ss))
 
-pub cons-length : (s : Span Shown) (ss : List (Span Shown)) → length (bytesOf (s ∷ ss)) ≡ 105 + 35 * many s + length (bytesOf ss)
+pub cons-length : (s : Span Shown) (ss : List (Span Shown)) → length (bytesOf (s ∷ ss)) ≡ phaseSize + eventSize * many s + length (bytesOf ss)
 cons-length s ss =
     let a = length-append (headBytes s) (eventBytes s ++ bytesOf ss) in
     let b = length-append (eventBytes s) (bytesOf ss) in
@@ -84,7 +87,7 @@ joinsNext last q = joinsLast last (q .from) (q .body .held .phase) (q .body .hel
 
 unfoldable pub more : Last → List (Span Shown) → ℕ
 more last [] = 0
-more last (q ∷ qs) = cond (joinsNext last q) 0 105 + 35 * many q + more (lastAt q) qs
+more last (q ∷ qs) = cond (joinsNext last q) 0 phaseSize + eventSize * many q + more (lastAt q) qs
 
 and-true : (a b : Bool) → (a && b) ≡ true → (a ≡ true) × (b ≡ true)
 and-true true b e = (refl, e)
@@ -98,15 +101,15 @@ same-last s q e =
     let m = and-true (eqb (a .phase) (b .phase)) (eqb (a .rule .evidence) (b .rule .evidence)) (and-true (eqb (s .to) (q .from)) (sameMark (phases .mark (s .body)) (phases .mark (q .body))) e .1) in
     ap₂ (Shows (record { 0 = q .to })) (eqb-true (a .phase) (b .phase) (m .0)) (eqb-true (a .rule .evidence) (b .rule .evidence) (m .1))
 
-pub from-more : (s : Span Shown) (qs : List (Span Shown)) → length (bytesOf (joinFrom phases s qs)) ≡ 105 + 35 * many s + more (lastAt s) qs
+pub from-more : (s : Span Shown) (qs : List (Span Shown)) → length (bytesOf (joinFrom phases s qs)) ≡ phaseSize + eventSize * many s + more (lastAt s) qs
 unfolding joinFrom more phaseForms encodeAll
 from-more s [] = cons-length s [] ∙ omega arith
 from-more s (q ∷ qs) = go (joins phases s q) refl (from-more (joinedSpan phases s q) qs) (from-more q qs)
   where
     go : (b : Bool) → joins phases s q ≡ b
-        → length (bytesOf (joinFrom phases (joinedSpan phases s q) qs)) ≡ 105 + 35 * many (joinedSpan phases s q) + more (lastAt (joinedSpan phases s q)) qs
-        → length (bytesOf (joinFrom phases q qs)) ≡ 105 + 35 * many q + more (lastAt q) qs
-        → length (bytesOf (cond b (joinFrom phases (joinedSpan phases s q) qs) (s ∷ joinFrom phases q qs))) ≡ 105 + 35 * many s + (cond b 0 105 + 35 * many q + more (lastAt q) qs)
+        → length (bytesOf (joinFrom phases (joinedSpan phases s q) qs)) ≡ phaseSize + eventSize * many (joinedSpan phases s q) + more (lastAt (joinedSpan phases s q)) qs
+        → length (bytesOf (joinFrom phases q qs)) ≡ phaseSize + eventSize * many q + more (lastAt q) qs
+        → length (bytesOf (cond b (joinFrom phases (joinedSpan phases s q) qs) (s ∷ joinFrom phases q qs))) ≡ phaseSize + eventSize * many s + (cond b 0 phaseSize + eventSize * many q + more (lastAt q) qs)
     go true e one two =
         let l = ap (λ (x : Last). more x qs) (same-last s q e) in
         let m = length-append (s .body .events) (q .body .events) in
@@ -121,10 +124,10 @@ all-more (q ∷ qs) = from-more q qs ∙ omega arith
 
 -- so many bytes at most for a span, of so many at most
 abbrev pub spanMost : ℕ
-spanMost = 105 + 35 * 1280
+spanMost = phaseSize + eventSize * mostInSpan
 
 abbrev pub spansMost : ℕ
-spansMost = 16 * 3660
+spansMost = base .points * turns
 
 pub record Sizing (total : ℕ) (last : Last) (size : ℕ) (left : List (Span Shown)) : Type 0 where
   pub same : size + more last left ≡ total
@@ -133,13 +136,13 @@ pub record Sizing (total : ℕ) (last : Last) (size : ℕ) (left : List (Span Sh
 pub size-start : (qs : List (Span Shown)) → length qs ≤ spansMost → Sizing (length (bytesOf (joined phases qs))) Nothing 0 qs
 size-start qs h = record { same = omega (arith, all-more qs); few = omega arith }
 
-pub size-one : {total size size′ : ℕ} {last last′ : Last} {q : Span Shown} {qs : List (Span Shown)} → Sizing total last size (q ∷ qs) → many q ≤ 1280
-    → size′ ≡ size + cond (joinsNext last q) 0 105 + 35 * many q → last′ ≡ lastAt q → Sizing total last′ size′ qs
+pub size-one : {total size size′ : ℕ} {last last′ : Last} {q : Span Shown} {qs : List (Span Shown)} → Sizing total last size (q ∷ qs) → many q ≤ mostInSpan
+    → size′ ≡ size + cond (joinsNext last q) 0 phaseSize + eventSize * many q → last′ ≡ lastAt q → Sizing total last′ size′ qs
 unfolding more
 size-one {total} {size} {size′} {last} {last′} {q} {qs} w h e i =
     rw i (record { same = let s = w .same in omega arith; few = go (joinsNext last q) (w .few) e })
   where
-    go : (b : Bool) → size + spanMost * suc (length qs) ≤ spanMost * spansMost → size′ ≡ size + cond b 0 105 + 35 * many q
+    go : (b : Bool) → size + spanMost * suc (length qs) ≤ spanMost * spansMost → size′ ≡ size + cond b 0 phaseSize + eventSize * many q
         → size′ + spanMost * length qs ≤ spanMost * spansMost
     go true f g = omega arith
     go false f g = omega arith

@@ -3,7 +3,7 @@ use mathlib.Core.Path.{_≡_, refl, sym, ap, ap₂, _∙_, subst}
 use mathlib.Core.Bool.{Bool, true, false, cond}
 use mathlib.Core.List.{List, [], _∷_, map}
 use mathlib.Core.Option.{Option}
-use Prim.Native.Nat.{ℕ, _+_, _*_, _≤_, _<_}
+use Prim.Native.Nat.{ℕ, _+_, _*_, _≤_, _<_, _-_}
 use native.Mathlib.Omega.{arith}
 use lib.Dec.{ltb}
 use lib.ListN.{length, length-map}
@@ -11,10 +11,10 @@ use Rattle.zone.specs.Zone.{Zone, zoneOf}
 use Rattle.records.specs.Records.{Rule, Event, ruleAt, eventAt}
 use Rattle.venue.specs.Filled.{Ready}
 use Rattle.spans.specs.Spans.{Span, joined}
-use Rattle.spans.specs.Timeline.{Edge}
+use Rattle.spans.specs.Timeline.{Edge, turns}
 use Rattle.day.specs.Governing.{governing}
 use Rattle.day.specs.Days.{Held, venueBy}
-use Rattle.events.specs.Happenings.{found}
+use Rattle.events.specs.Happenings.{found, mostInSpan}
 use Rattle.events.proofs.Order.{length-sorted}
 use Rattle.events.proofs.Few.{few}
 use Rattle.walk.specs.Walking.{ruleOf, pointOf, endEdge, shownPart, behind, Fits, rest, Stands, Begun, Comes}
@@ -28,6 +28,7 @@ use Rattle.walk.specs.declared.Turned.the-variants.{Done as Turned·Done, On}
 use Rattle.walk.proofs.Laws.{rest-length, rules-few}
 use Rattle.walk.proofs.Looking.{looked-shown, looked-comes}
 use Rattle.tell.specs.Shown.{Shown}
+use Rattle.answer.specs.Forms.{phaseSize, eventSize}
 use Rattle.joining.specs.Joining.{phases}
 use Rattle.joining.specs.Walked.{showsSpan, walkSpans}
 use Rattle.joining.specs.Amending.{joinsLast}
@@ -73,13 +74,13 @@ module _ (s : List ℕ) (first : ℕ) (ats offsets rules events : List ℕ) (hi 
   done-left w e = ap (map (showsSpan z es)) e
 
   module _ (r : Ready s first ats offsets rules events) where
-    pub found-few : (q : Piece) → Fits s z q → length (found z es (q .start .0) (q .end .0)) ≤ 1280
+    pub found-few : (q : Piece) → Fits s z q → length (found z es (q .start .0) (q .end .0)) ≤ mostInSpan
     found-few q f = few s first ats offsets events (r .zone) (r .events-listed) (r .few) (q .start .0) (q .end .0) (f .short)
 
-    pub many-few : (q : Piece) → Fits s z q → many (spanOf q) ≤ 1280
+    pub many-few : (q : Piece) → Fits s z q → many (spanOf q) ≤ mostInSpan
     many-few q f = omega (arith, many-found q, found-few q f)
 
-    module _ {lo : ℕ} {w : Walk} {a : List ℕ} (b : Begun s z (venueBy z g) 3659 lo w a) where
+    module _ {lo : ℕ} {w : Walk} {a : List ℕ} (b : Begun s z (venueBy z g) (turns - 1) lo w a) where
       pub begun-spans : walkSpans z g es lo hi ≡ joined phases (left w)
       begun-spans = ap (λ (l : List (Span Held)). joined phases (map (showsSpan z es) l)) (sym (b .all hi))
 
@@ -99,11 +100,11 @@ module _ (s : List ℕ) (first : ℕ) (ats offsets rules events : List ℕ) (hi 
     module _ {w : Walk} {q : Piece} {a : List ℕ} (c : Coming w q a) {p e : ℕ} (phase-is : p ≡ pointOf s q (q .point) .phase)
         (evidence-is : e ≡ ruleOf s q .evidence) where
       pub sized : {total size : ℕ} {last : Last} → Sizing total last size (left w) → {b : Bool} → b ≡ joinsLast last (q .from .0) p e
-          → {n m k : ℕ} → n ≡ cond b 0 105
-          → m ≡ length (found z es (q .start .0) (q .end .0)) → k ≡ size + n + 35 * m → Sizing total (Shows (q .to) p e) k (left (behind q))
+          → {n m k : ℕ} → n ≡ cond b 0 phaseSize
+          → m ≡ length (found z es (q .start .0) (q .end .0)) → k ≡ size + n + eventSize * m → Sizing total (Shows (q .to) p e) k (left (behind q))
       sized {total} {size} {last} i {b} j {n} {m} {k} x y t =
           size-one (subst (λ (l : List (Span Shown)). Sizing total last size l) (come-left c) i) (many-few q (c .fits))
-          (t ∙ ap₂ (λ (u v : ℕ). size + u + 35 * v) (x ∙ ap (λ (u : Bool). cond u 0 105) (joins-read q phase-is evidence-is last j)) (y ∙ sym (many-found q)))
+          (t ∙ ap₂ (λ (u v : ℕ). size + u + eventSize * v) (x ∙ ap (λ (u : Bool). cond u 0 phaseSize) (joins-read q phase-is evidence-is last j)) (y ∙ sym (many-found q)))
           (last-read q phase-is evidence-is)
 
       pub fewer : length (left (behind q)) + q .turns < length (left w) + w .turns

@@ -4,12 +4,12 @@ ghost use mathlib.Core.Path.{_≡_};
 ghost use mathlib.Core.Bool.{cond};
 ghost use lib.ListN.{length};
 ghost use Rattle.venue.specs.Filled.{Ready};
-ghost use Rattle.answer.specs.Forms.{encodeAll};
+ghost use Rattle.answer.specs.Forms.{encodeAll, phaseSize};
 ghost use Rattle.joining.specs.Walked.{walkForms};
 use crate::Last;
 use crate::joins;
-use answer::EVENT_BYTES;
-use answer::PHASE_BYTES;
+use answer::EVENT_SIZE;
+use answer::PHASE_SIZE;
 use events::count_events;
 use venue::point_phase;
 use venue::rule_evidence;
@@ -26,9 +26,9 @@ use zone::Instant;
 
 // A span that joins the one before takes no record of its own.
 fn record_size(joining: bool) -> usize
-    ensures { λ r. ⌜ (r ≡ cond joining 0 105) × (r ≤ 105) ⌝ }
+    ensures { λ r. ⌜ (r ≡ cond joining 0 phaseSize) × (r ≤ phaseSize) ⌝ }
 {
-    if joining { 0 } else { PHASE_BYTES }
+    if joining { 0 } else { PHASE_SIZE }
 }
 
 // How many bytes the walk from `lo` to before `hi` takes.
@@ -76,7 +76,7 @@ pub fn walk_size(
                 let evidence = rule_evidence(book, rule);
                 let record = record_size(joins(last, from, phase, evidence));
                 let count = count_events(book, first, ats, offsets, events, start, end);
-                size = size + record + EVENT_BYTES * count;
+                size = size + record + EVENT_SIZE * count;
                 last = Last::Shows(to, phase, evidence);
                 w = behind(q);
             }

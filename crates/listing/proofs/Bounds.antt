@@ -14,6 +14,7 @@ use Rattle.answer.specs.Forms
 use Rattle.rows.specs.Rows.{placedAt, fromAt, toAt, countAt, behindPhase, behindGap, eventOf, eventsFrom, phaseSeen, gapSeen, segments, segmentsAt, enough, goodFrom, goodRow}
 use Rattle.rows.proofs.Turns.{phase-holds, gap-holds, mark-holds, Goes, ends, phases, gaps, anew, none, goes}
 use Rattle.rows.proofs.Places.{segments-end, segments-phase, segments-gap, segments-mark}
+use Rattle.answer.specs.Forms.{phaseSize, eventSize}
 use Rattle.listing.specs.Text.{decimal, instant, fields}
 use Rattle.listing.specs.Listing.{headLine, segmentLine, eventLine, eventLines, segmentLines, allLines, rowText}
 use Rattle.listing.specs.Private.{Fits}
@@ -55,14 +56,14 @@ module _ (s : List ℕ) (b : Bytes s) where
   events-short at zero = omega arith
   events-short at (suc n) =
       let e = event-short (eventOf s at .at) (eventOf s at .code) (placed-64 Forms.eventAt at) (two-64 at (Forms.eventCode .from)) in
-      omega (arith, e, events-short (at + 35) n, length-append (eventLine (eventOf s at)) (eventLines (eventsFrom s (at + 35) n)))
+      omega (arith, e, events-short (at + eventSize) n, length-append (eventLine (eventOf s at)) (eventLines (eventsFrom s (at + eventSize) n)))
 
   phase-lines : (at : ℕ) → number Forms.phasePlace s at ≤ 7 → length (segmentLines (phaseSeen s at)) ≤ 88 + 45 * countAt s at
   phase-lines at h =
       let p = number Forms.phasePlace s at in
       let e = number Forms.evidencePlace s at in
       let one = phase-short (fromAt s at) (toAt s at) p e (placed-64 Forms.start at) (placed-64 Forms.end at) (omega arith) (two-64 at (Forms.evidencePlace .from)) in
-      omega (arith, one, events-short (at + 105) (countAt s at), length-append (segmentLine (fromAt s at) (toAt s at) (phase p e)) (eventLines (eventsFrom s (at + 105) (countAt s at))))
+      omega (arith, one, events-short (at + phaseSize) (countAt s at), length-append (segmentLine (fromAt s at) (toAt s at) (phase p e)) (eventLines (eventsFrom s (at + phaseSize) (countAt s at))))
 
   gap-lines : (at : ℕ) → length (segmentLines (gapSeen s at)) ≤ 46
   unfolding eventLines

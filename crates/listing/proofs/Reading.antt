@@ -10,6 +10,7 @@ use Rattle.rows.specs.Telling.{segmentOf, spanOf, endOf}
 use Rattle.rows.specs.declared.Segment.{Segment}
 use Rattle.rows.proofs.Places.{segments-end}
 use Rattle.rows.proofs.Laws.{InRow, row-in, Segmented, end-after, row-on, row-split}
+use Rattle.answer.specs.Forms.{eventSize}
 use Rattle.listing.specs.Listing.{eventLine, eventLines, segmentLines, allLines}
 use Rattle.listing.specs.Private.{Puts}
 use Rattle.listing.proofs.Writing.{Going, ends}
@@ -48,13 +49,13 @@ list-over {old} {whole} {new} {at} {next} s from w e = let v : Going old at whol
 -- ---- events are listed
 
 events-cons : (s : List ℕ) (from n : ℕ) → 0 < n
-    → eventLines (eventsFrom s from n) ≡ eventLine (eventOf s from) ++ eventLines (eventsFrom s (from + 35) (n - 1))
+    → eventLines (eventsFrom s from n) ≡ eventLine (eventOf s from) ++ eventLines (eventsFrom s (from + eventSize) (n - 1))
 unfolding eventsFrom eventLines
 events-cons s from zero h = absurd (omega arith)
 events-cons s from (suc n) h = let z : suc n - 1 ≡ n = omega arith in rw z
 
 pub event-one : {old whole new : List ℕ} {at next : ℕ} (s : List ℕ) (from n : ℕ) → 0 < n → Going old at whole (eventLines (eventsFrom s from n)) new next
-    → Going old at whole (eventLine (eventOf s from) ++ eventLines (eventsFrom s (from + 35) (n - 1))) new next
+    → Going old at whole (eventLine (eventOf s from) ++ eventLines (eventsFrom s (from + eventSize) (n - 1))) new next
 event-one s from n h g = rw (events-cons s from n h) at g
 
 pub event-none : {old whole new : List ℕ} {at next : ℕ} (s : List ℕ) (from n : ℕ) → n ≡ 0 → Going old at whole (eventLines (eventsFrom s from n)) new next

@@ -7,13 +7,14 @@ ghost use Rattle.wire.specs.Fields.{Inside};
 ghost use Rattle.spans.specs.Spans.{phase, unknown};
 ghost use Rattle.rows.specs.Rows.{goodRow, segments, eventsFrom};
 ghost use Rattle.rows.specs.Telling.{markOf, spanOf};
+ghost use Rattle.answer.specs.Forms.{eventSize};
 ghost use Rattle.listing.specs.Listing.{headLine, segmentLine, eventLine, eventLines, segmentLines, allLines};
 ghost use Rattle.listing.specs.Private.{Fits, Puts};
 use crate::text::put_byte;
 use crate::text::put_instant;
 use crate::text::put_number;
 use crate::text::put_word;
-use answer::EVENT_BYTES;
+use answer::EVENT_SIZE;
 use rows::Segment;
 use rows::Shows;
 use rows::end_of;
@@ -65,7 +66,7 @@ fn put_event(out: &mut [u8], at: usize, when: Placed, code: u16) -> usize
 
 // The lines of n events, which stand in the answer from `first` on.
 fn put_events(answer: &[u8], first: usize, n: u32, out: &mut [u8], at: usize) -> usize
-    requires { ⌜ Inside first (35 * n) (now answer) × Fits at (eventLines (eventsFrom (now answer) first n)) (now out) ⌝ }
+    requires { ⌜ Inside first (eventSize * n) (now answer) × Fits at (eventLines (eventsFrom (now answer) first n)) (now out) ⌝ }
     ensures { λ r. ⌜ Puts (now (out .entry)) at (eventLines (eventsFrom (now (answer .entry)) first n)) (now (out .exit)) r ⌝ }
 {
     let mut place = at;
@@ -75,7 +76,7 @@ fn put_events(answer: &[u8], first: usize, n: u32, out: &mut [u8], at: usize) ->
         let e = event_at(answer, from);
         let when = e.at;
         place = put_event(out, place, when, e.code);
-        from += EVENT_BYTES;
+        from += EVENT_SIZE;
         left -= 1;
     }
     place
@@ -93,7 +94,7 @@ fn put_shown(out: &mut [u8], at: usize, from: Placed, to: Placed, shows: Shows) 
 
 // A segment of the answer, and its events below it.
 fn put_segment(answer: &[u8], g: Segment, out: &mut [u8], at: usize) -> usize
-    requires { ⌜ Inside (g .behind) (35 * g .events) (now answer) × Fits at (segmentLines (spanOf (now answer) g)) (now out) ⌝ }
+    requires { ⌜ Inside (g .behind) (eventSize * g .events) (now answer) × Fits at (segmentLines (spanOf (now answer) g)) (now out) ⌝ }
     ensures { λ r. ⌜ Puts (now (out .entry)) at (segmentLines (spanOf (now (answer .entry)) g)) (now (out .exit)) r ⌝ }
 {
     let from = g.from;

@@ -11,6 +11,7 @@ use lib.ListN.{length, getD, set, length-set}
 use lib.Seq.{getD-set-same, getD-set-other, ext-getD}
 use Rattle.spans.specs.Spans.{Mark, phase, unknown, Span}
 use Rattle.spans.specs.Totals.{anyMark, total}
+use Rattle.answer.specs.Forms.{manyTotals}
 use Rattle.pages.specs.Rows.{rowTotals}
 use Rattle.pages.specs.Pages.{marks, kindAt, Slot, fresh, shifted, Filled, Ahead, Ordered}
 
@@ -143,7 +144,7 @@ module _ {all : List (Span Mark)} (fits : (k : Mark → Bool) (x y : ℕ) → to
     abbrev grown : List ℕ
     grown = set row j (getD row j 0 + partOf a b s)
 
-    grown-long : length grown ≡ 10
+    grown-long : length grown ≡ manyTotals
     grown-long = length-set row j (getD row j 0 + partOf a b s) ∙ w .long
 
     grown-each : (i : ℕ) → i < 9 → Dec (i ≡ j) → getD grown i 0 + total marks (kindAt i) a b left ≡ total marks (kindAt i) a b all

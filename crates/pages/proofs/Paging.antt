@@ -13,7 +13,7 @@ use Rattle.zone.specs.Units.{dayNs}
 use Rattle.spans.specs.Spans.{Mark, unknown, Span}
 use Rattle.spans.specs.Timeline.{Part}
 use Rattle.spans.specs.Totals.{anyMark, total}
-use Rattle.answer.specs.Forms.{Form, day, tally, encode, encodeAll}
+use Rattle.answer.specs.Forms.{Form, day, tally, encode, encodeAll, rowSize, manyTotals}
 use Rattle.answer.specs.Meaning.{totalsOf}
 use Rattle.answer.proofs.Readback.{encode-length}
 use Rattle.answer.proofs.Several.{one-form, encode-append, append-length}
@@ -64,13 +64,13 @@ dayOf all a b = dayForm marks all (record { start = a; end = b })
 abbrev closingOf : List (Span Mark) → ℕ → ℕ → Form
 closingOf all start end = tally (totalsOf start end (rowTotals marks start end all))
 
-day-long : (all : List (Span Mark)) (a b : ℕ) → length (encode (dayOf all a b)) ≡ 100
+day-long : (all : List (Span Mark)) (a b : ℕ) → length (encode (dayOf all a b)) ≡ rowSize
 day-long all a b = encode-length (dayOf all a b) refl
 
-closing-long : (all : List (Span Mark)) (start end : ℕ) → length (encodeAll (closingOf all start end ∷ [])) ≡ 100
+closing-long : (all : List (Span Mark)) (start end : ℕ) → length (encodeAll (closingOf all start end ∷ [])) ≡ rowSize
 closing-long all start end = ap length (sym (one-form (closingOf all start end))) ∙ encode-length (closingOf all start end) refl
 
-days-long : (all : List (Span Mark)) (rs : List Part) → length (encodeAll (map (dayForm marks all) rs)) ≡ 100 * length rs
+days-long : (all : List (Span Mark)) (rs : List Part) → length (encodeAll (map (dayForm marks all) rs)) ≡ rowSize * length rs
 unfolding encodeAll
 days-long all [] = refl
 days-long all (r ∷ rs) =
@@ -78,7 +78,7 @@ days-long all (r ∷ rs) =
     omega (arith, a, days-long all rs, day-long all (r .start) (r .end))
 
 -- how long an answer is
-pub forms-long : (all : List (Span Mark)) (start end : ℕ) → length (encodeAll (rawForms all start end)) ≡ 100 * (length (rowsOf start end) + 1)
+pub forms-long : (all : List (Span Mark)) (start end : ℕ) → length (encodeAll (rawForms all start end)) ≡ rowSize * (length (rowsOf start end) + 1)
 forms-long all start end =
     let a = append-length (map (dayForm marks all) (rowsOf start end)) (closingOf all start end ∷ []) in
     omega (arith, a, days-long all (rowsOf start end), closing-long all start end)
@@ -125,10 +125,10 @@ module _ {all left : List (Span Mark)} {start end : ℕ} {room : List ℕ} {a b 
       let l = append-length (map (dayForm marks all) (rowsOf start end)) (closingOf all start end ∷ []) in
       omega (arith, t, x, y, o, day-long all a b, l, closing-long all start end, w .fits, w .put .kept, w .put .many)
 
-  page-inside : Inside at 100 now
+  page-inside : Inside at rowSize now
   page-inside = omega (arith, page-behind)
 
-  page-put : {now1 : List ℕ} {at1 : ℕ} → Put now at (encode (dayOf all a b)) 100 now1 at1
+  page-put : {now1 : List ℕ} {at1 : ℕ} → Put now at (encode (dayOf all a b)) rowSize now1 at1
       → Put room 0 (encodeAll (w .done ++ (dayOf all a b ∷ []))) at1 now1 at1
   page-put {now1} {at1} y =
       let e = encode-append (w .done) (dayOf all a b ∷ []) in
@@ -160,10 +160,10 @@ module _ {all left : List (Span Mark)} {from to : ℕ} {m : Mark} {start end : �
     page-turns : (b < end) × (b < rowEnd end b)
     page-turns = (omega (arith, w .ordered .0), omega (arith, w .ordered .0))
 
-    page-room : (length row1 ≡ 10) × Inside at 100 now
+    page-room : (length row1 ≡ manyTotals) × Inside at rowSize now
     page-room = (f .long, page-inside w)
 
-    page-next : {now1 row2 : List ℕ} {at1 b1 : ℕ} → Put now at (encode (day (totalsOf a b row1))) 100 now1 at1 → b1 ≡ rowEnd end b → row2 ≡ fresh (b1 - b)
+    page-next : {now1 row2 : List ℕ} {at1 b1 : ℕ} → Put now at (encode (day (totalsOf a b row1))) rowSize now1 at1 → b1 ≡ rowEnd end b → row2 ≡ fresh (b1 - b)
         → Paged all (stretchOf from to m ∷ left) start end room b b1 at1 row2 now1
     page-next {now1} {row2} {at1} {b1} y e g =
         let r = rows-next (w .fuel) end a (w .inside) (w .enough) in
@@ -178,7 +178,7 @@ module _ {all left : List (Span Mark)} {from to : ℕ} {m : Mark} {start end : �
           fuel = r .0;
           enough = omega (arith, r .2, w .edge);
           same = next-same w (r .0) (r .1);
-          put = page-put w (subst (λ (l : List ℕ). Put now at (encode (day (totalsOf a b l))) 100 now1 at1) row-is y);
+          put = page-put w (subst (λ (l : List ℕ). Put now at (encode (day (totalsOf a b l))) rowSize now1 at1) row-is y);
           fits = w .fits;
         }
 
@@ -197,7 +197,7 @@ rolling-none now a b at row end from to slot = record { on = λ all left start r
 module _ {now : List ℕ} {a b at : ℕ} {row : List ℕ} {end from to slot : ℕ} {now1 : List ℕ} {a1 b1 at1 : ℕ} {row1 : List ℕ}
     (r : Rolling now a b at row end from to slot now1 a1 b1 at1 row1) {n : ℕ} (e : n ≡ min b1 to - max a1 from) {row2 : List ℕ} (f : row2 ≡ shifted row1 slot n) where
   -- another row
-  pub rolling-next : b1 < to → {now2 row3 : List ℕ} {at2 b2 : ℕ} → Put now1 at1 (encode (day (totalsOf a1 b1 row2))) 100 now2 at2
+  pub rolling-next : b1 < to → {now2 row3 : List ℕ} {at2 b2 : ℕ} → Put now1 at1 (encode (day (totalsOf a1 b1 row2))) rowSize now2 at2
       → b2 ≡ rowEnd end b1 → row3 ≡ fresh (b2 - b1)
       → Rolling now a b at row end from to slot now2 b1 b2 at2 row3
   rolling-next h {now2} {row3} y i g =
@@ -228,7 +228,7 @@ module _ {now : List ℕ} {p : Page} {start end from to slot : ℕ} {row whole :
       coming-row h = shift-room (paged .small) (paged .filled) (c .is) e (omega (arith, paged .edge))
 
       module _ {row2 : List ℕ} (f : row2 ≡ shifted row1 slot n) (h : b1 < to) where
-        pub coming-room : (length row2 ≡ 10) × Inside at1 100 now1
+        pub coming-room : (length row2 ≡ manyTotals) × Inside at1 rowSize now1
         coming-room = page-room paged (shift-one (paged .small) (paged .filled) (c .is) e f) h
 
         pub coming-turn : (b1 < end) × (b1 < rowEnd end b1)
@@ -276,8 +276,8 @@ module _ {all : List (Span Mark)} {start end : ℕ} {room now : List ℕ} {p : P
     none-left k x y = refl
 
     -- the last row and the closing total are written
-    all-written : {now1 now2 : List ℕ} {at1 at2 : ℕ} → Put now (p .at) (encode (day (totalsOf (p .start .0) (p .end .0) row))) 100 now1 at1
-        → Put now1 at1 (encode (tally (totalsOf start end whole))) 100 now2 at2 → Put room 0 (encodeAll (rawForms all start end)) at2 now2 at2
+    all-written : {now1 now2 : List ℕ} {at1 at2 : ℕ} → Put now (p .at) (encode (day (totalsOf (p .start .0) (p .end .0) row))) rowSize now1 at1
+        → Put now1 at1 (encode (tally (totalsOf start end whole))) rowSize now2 at2 → Put room 0 (encodeAll (rawForms all start end)) at2 now2 at2
     all-written {now1} {now2} {at1} {at2} x y =
         let v = w .page in
         let days = map (dayForm marks all) (rowsOf start end) in
@@ -288,8 +288,8 @@ module _ {all : List (Span Mark)} {start end : ℕ} {room now : List ℕ} {p : P
         let e = filled-all (v .small) (v .filled) (λ k. none-left k _ _) in
         let f = filled-all (v .small) (w .closing) (λ k. none-left k _ _) in
         let g : Put room 0 (encodeAll days) at1 now1 at1 =
-        rw same (page-put v (subst (λ (l : List ℕ). Put now (p .at) (encode (day (totalsOf (p .start .0) (p .end .0) l))) 100 now1 at1) e x)) in
-        let z = subst (λ (l : List ℕ). Put now1 at1 (encode (tally (totalsOf start end l))) 100 now2 at2) f y in
+        rw same (page-put v (subst (λ (l : List ℕ). Put now (p .at) (encode (day (totalsOf (p .start .0) (p .end .0) l))) rowSize now1 at1) e x)) in
+        let z = subst (λ (l : List ℕ). Put now1 at1 (encode (tally (totalsOf start end l))) rowSize now2 at2) f y in
         let c = encode-append days (closingOf all start end ∷ []) in
         let o = one-form (closingOf all start end) in
         rw (c, ← o) (also at2 g z (z .behind) (omega (arith, z .behind, x .behind, page-behind v, v .put .kept)))
@@ -297,7 +297,7 @@ module _ {all : List (Span Mark)} {start end : ℕ} {room now : List ℕ} {p : P
 -- ---- the start
 
 module _ (all : List (Span Mark)) {start end : ℕ} {room : List ℕ} (h : start < end) (ordered : Ordered end all)
-    (fits : 100 * (length (rowsOf start end) + 1) ≤ length room) where
+    (fits : rowSize * (length (rowsOf start end) + 1) ≤ length room) where
   pub first-standing : {p : Page} {row whole : List ℕ} → First start end p row whole → Standing all all start end room room p row whole
   unfolding encodeAll
   first-standing {p} {row} {whole} f =
@@ -338,14 +338,14 @@ module _ {now : List ℕ} {p : Page} {start end : ℕ} {row whole now1 : List �
     abbrev last : Standing (c .all) [] start end (c .room) now1 p1 row1 whole1
     last = k .on (c .all) [] (c .room) unknown unknown-slot (one-more (c .stands))
 
-    pub ending-day : (length row1 ≡ 10) × Inside (p1 .at) 100 now1
+    pub ending-day : (length row1 ≡ manyTotals) × Inside (p1 .at) rowSize now1
     ending-day = (last .page .filled .long, page-inside (last .page))
 
-    pub ending-tally : {v now2 : List ℕ} {at2 : ℕ} → Put now1 (p1 .at) v 100 now2 at2 → (length whole1 ≡ 10) × Inside at2 100 now2
+    pub ending-tally : {v now2 : List ℕ} {at2 : ℕ} → Put now1 (p1 .at) v rowSize now2 at2 → (length whole1 ≡ manyTotals) × Inside at2 rowSize now2
     ending-tally x = (last .closing .long, omega (arith, x .behind, x .kept, page-behind (last .page)))
 
-  pub ended : {now2 now3 : List ℕ} {at2 at3 : ℕ} → Put now1 (p1 .at) (encode (day (totalsOf (p1 .start .0) (p1 .end .0) row1))) 100 now2 at2
-      → Put now2 at2 (encode (tally (totalsOf start end whole1))) 100 now3 at3 → Ended now p start end row whole now3 at3
+  pub ended : {now2 now3 : List ℕ} {at2 at3 : ℕ} → Put now1 (p1 .at) (encode (day (totalsOf (p1 .start .0) (p1 .end .0) row1))) rowSize now2 at2
+      → Put now2 at2 (encode (tally (totalsOf start end whole1))) rowSize now3 at3 → Ended now p start end row whole now3 at3
   ended x y =
       record {
         on = λ all room w. all-written (k .on all [] room unknown unknown-slot (one-more w)) (k .reached) x y;

@@ -9,7 +9,7 @@ use Rattle.wire.specs.Fields.{Put}
 use Rattle.zone.specs.Units.{dayNs}
 use Rattle.spans.specs.Spans.{Mark, phase, unknown, Span, Body}
 use Rattle.spans.specs.Totals.{isPhase, isUnknown, anyMark, total}
-use Rattle.answer.specs.Forms.{Form, encodeAll}
+use Rattle.answer.specs.Forms.{Form, encodeAll, manyTotals}
 use Rattle.pages.specs.Rows.{rowEnd, rowsFrom, rowsOf, dayForm, formsBy}
 use Rattle.pages.specs.declared.Page.{Page}
 
@@ -52,7 +52,7 @@ shifted row j n = set (set row j (getD row j 0 + n)) 9 (getD row 9 0 - n)
 
 -- `all` are a window's stretches, `left` those that are still to come
 pub record Filled (all left : List (Span Mark)) (a b : ℕ) (row : List ℕ) : Type 0 where
-  pub long : length row ≡ 10
+  pub long : length row ≡ manyTotals
   pub each : (i : ℕ) → i < 9 → getD row i 0 + total marks (kindAt i) a b left ≡ total marks (kindAt i) a b all
   pub rest : getD row 9 0 ≡ ((b - a) - total marks anyMark a b all) + total marks anyMark a b left
 

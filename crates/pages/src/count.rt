@@ -5,9 +5,9 @@ ghost use mathlib.Core.Path.{_≡_};
 ghost use lib.ListN.{getD};
 ghost use Rattle.pages.specs.Pages.{shifted, fresh, Coming, Counted, Ending, Ended, First};
 use crate::Page;
-use crate::SLOTS;
 use crate::UNKNOWN;
 use crate::cuts::row_end;
+use answer::TOTALS;
 use answer::put_day;
 use answer::put_tally;
 use spans::earlier;
@@ -27,15 +27,15 @@ fn part(a: u64, b: u64, from: u64, to: u64) -> u64
 }
 
 // A row as it begins.
-fn renew(row: &mut [u64; SLOTS], length: u64)
+fn renew(row: &mut [u64; TOTALS], length: u64)
     ensures { λ r. ⌜ now (row .exit) ≡ fresh length ⌝ }
 {
-    *row = [0; SLOTS];
+    *row = [0; TOTALS];
     row[NOWHERE] = length;
 }
 
 // So much of it lies in segments of one kind.
-fn shift(row: &mut [u64; SLOTS], slot: usize, n: u64)
+fn shift(row: &mut [u64; TOTALS], slot: usize, n: u64)
     requires { ⌜ (slot < 9) × (n ≤ getD (now row) 9 0) × (getD (now row) slot 0 + n < 2 ^ 64) ⌝ }
     ensures { λ r. ⌜ now (row .exit) ≡ shifted (now (row .entry)) slot n ⌝ }
 {
@@ -49,8 +49,8 @@ fn shift(row: &mut [u64; SLOTS], slot: usize, n: u64)
 pub fn first_page(
     start: Instant,
     end: Instant,
-    row: &mut [u64; SLOTS],
-    whole: &mut [u64; SLOTS],
+    row: &mut [u64; TOTALS],
+    whole: &mut [u64; TOTALS],
 ) -> Page
     requires { ⌜ start .0 < end .0 ⌝ }
     ensures { λ r. ⌜ First (start .0) (end .0) r (now (row .exit)) (now (whole .exit)) ⌝ }
@@ -74,8 +74,8 @@ pub fn stretch(
     from: Instant,
     to: Instant,
     slot: usize,
-    row: &mut [u64; SLOTS],
-    whole: &mut [u64; SLOTS],
+    row: &mut [u64; TOTALS],
+    whole: &mut [u64; TOTALS],
 ) -> Page
     requires { ⌜ Coming (now out) page (start .0) (end .0) (from .0) (to .0) slot (now row) (now whole) ⌝ }
     ensures { λ r. ⌜ Counted (now (out .entry)) page (start .0) (end .0) (from .0) (to .0) slot (now (row .entry)) (now (whole .entry))
@@ -109,8 +109,8 @@ pub fn finish(
     page: Page,
     start: Instant,
     end: Instant,
-    row: &mut [u64; SLOTS],
-    whole: &mut [u64; SLOTS],
+    row: &mut [u64; TOTALS],
+    whole: &mut [u64; TOTALS],
 ) -> usize
     requires { ⌜ Ending (now out) page (start .0) (end .0) (now row) (now whole) ⌝ }
     ensures { λ r. ⌜ Ended (now (out .entry)) page (start .0) (end .0) (now (row .entry)) (now (whole .entry)) (now (out .exit)) r ⌝ }

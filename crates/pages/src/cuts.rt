@@ -2,8 +2,9 @@
 ghost use Prim.Native.Nat.{_+_, _*_, _≤_};
 ghost use mathlib.Core.Path.{_≡_};
 ghost use lib.ListN.{length};
+ghost use Rattle.answer.specs.Forms.{rowSize};
 ghost use Rattle.pages.specs.Rows.{rowEnd, rowsOf, mostNs};
-use answer::ROW_BYTES;
+use answer::ROW_SIZE;
 use zone::DAY_NS;
 
 // The next row edge after `at`. Sizing and rows both ask here.
@@ -33,7 +34,7 @@ fn count_rows(start: u64, end: u64) -> usize
 // How many bytes its rows and the closing total take.
 pub fn tally_size(start: u64, end: u64) -> usize
     requires { ⌜ end ≤ start + mostNs ⌝ }
-    ensures { λ r. ⌜ r ≡ 100 * (length (rowsOf start end) + 1) ⌝ }
+    ensures { λ r. ⌜ r ≡ rowSize * (length (rowsOf start end) + 1) ⌝ }
 {
-    ROW_BYTES * (count_rows(start, end) + 1)
+    ROW_SIZE * (count_rows(start, end) + 1)
 }

@@ -8,9 +8,6 @@ pub use count::stretch;
 pub use cuts::tally_size;
 use zone::Instant;
 
-// The totals of a row.
-pub const SLOTS: usize = 10;
-
 // Where what is unknown is counted.
 pub const UNKNOWN: usize = 8;
 

@@ -11,7 +11,7 @@ use Rattle.wire.proofs.Writing.{wrote-nothing}
 use Rattle.spans.specs.Spans.{Span, joins, joinedSpan, joinFrom, joined}
 use Rattle.spans.proofs.Loops.{amend, stand as stays}
 use Rattle.answer.specs.Amending.{Amends}
-use Rattle.answer.specs.Forms.{phase, encode, encodeAll}
+use Rattle.answer.specs.Forms.{phase, encode, encodeAll, phaseSize, eventSize}
 use Rattle.answer.specs.Meaning.{phaseOf}
 use Rattle.answer.specs.declared.Phase.{Phase}
 use Rattle.answer.proofs.Amended.{front-stands}
@@ -23,6 +23,7 @@ use Rattle.joining.specs.Amending.{joinedHead}
 use Rattle.joining.specs.declared.Last.{Last}
 use Rattle.joining.specs.declared.Last.the-variants.{Nothing, Shows}
 use Rattle.joining.proofs.Sizes.{many, headAt, headBytes, eventBytes, bytesOf, head-length, bytes-cons, both-events, both-heads, joinsNext, from-more, spansMost}
+use Rattle.events.specs.Happenings.{mostInSpan}
 use Rattle.passes.specs.Private.{Recorded}
 use Rattle.passes.proofs.Records.{record-behind, amended, stood}
 
@@ -44,7 +45,7 @@ pub record Ends (at : ℕ) (target written : List ℕ) (stand : ℕ) (head : Pha
   pub stands : stand ≡ at + length done
   pub parts : written ≡ done ++ (headBytes last ++ eventBytes last)
   pub rest : target ≡ done ++ bytesOf (joinFrom phases last left)
-  pub few : many last + 1280 * length left ≤ 1280 * spansMost
+  pub few : many last + mostInSpan * length left ≤ mostInSpan * spansMost
 
 abbrev pub Made : ℕ → List ℕ → List ℕ → Bool → ℕ → Phase → List (Span Shown) → Type 0
 Made at target written false stand head left = Starts target written left
@@ -73,12 +74,12 @@ write-start room at head qs h p =
 -- ---- a span more
 
 -- how long what follows is at least
-from-least : (q : Span Shown) (qs : List (Span Shown)) → 105 + 35 * many q ≤ length (bytesOf (joinFrom phases q qs))
+from-least : (q : Span Shown) (qs : List (Span Shown)) → phaseSize + eventSize * many q ≤ length (bytesOf (joinFrom phases q qs))
 from-least q qs = omega (arith, from-more q qs)
 
 -- behind a span: where its events go, where its record stands, and what that says
 abbrev pub trailAt : Bool → ℕ → ℕ
-trailAt joining place = cond joining place (place + 105)
+trailAt joining place = cond joining place (place + phaseSize)
 
 abbrev pub standAt : Bool → ℕ → ℕ → ℕ
 standAt joining stand place = cond joining stand place
@@ -89,12 +90,12 @@ headBy joining head new = cond joining (joinedHead head new) new
 -- what the code asks for while it writes the span q, and what that leaves
 pub record Goes (room : List ℕ) (at : ℕ) (target now : List ℕ) (stand : ℕ) (head : Phase) (place : ℕ) (q : Span Shown) (qs : List (Span Shown))
     (joining : Bool) : Type 0 where
-  pub begin : place + cond joining 0 105 ≤ length room
-  pub space : Inside (trailAt joining place) (35 * many q) now
+  pub begin : place + cond joining 0 phaseSize ≤ length room
+  pub space : Inside (trailAt joining place) (eventSize * many q) now
   pub count : cond joining (head .events) 0 + many q < 4294967296
-  pub ready : {now1 : List ℕ} {end : ℕ} → Put now (trailAt joining place) (eventBytes q) (35 * many q) now1 end
+  pub ready : {now1 : List ℕ} {end : ℕ} → Put now (trailAt joining place) (eventBytes q) (eventSize * many q) now1 end
       → Recorded now1 (standAt joining stand place) joining (headBy joining head (headAt q))
-  pub next : {now1 now2 : List ℕ} {end : ℕ} → Put now (trailAt joining place) (eventBytes q) (35 * many q) now1 end
+  pub next : {now1 now2 : List ℕ} {end : ℕ} → Put now (trailAt joining place) (eventBytes q) (eventSize * many q) now1 end
       → now2 ≡ wrote now1 (standAt joining stand place) (encode (phase (phaseOf (headBy joining head (headAt q)))))
       → Writing room at target now2 true (standAt joining stand place) (headBy joining head (headAt q)) end qs
 
@@ -116,21 +117,21 @@ module _ {room : List ℕ} {at : ℕ} {target now : List ℕ} {stand : ℕ} {hea
         omega (arith, o .few),
       )
 
-  module _ (l : many q ≤ 1280) (begun : Bool) (w : Writing room at target now begun stand head place (q ∷ qs))
+  module _ (l : many q ≤ mostInSpan) (begun : Bool) (w : Writing room at target now begun stand head place (q ∷ qs))
       (e : joinsNext (shows begun head) q ≡ false) where
-    own-room : place + (105 + 35 * many q) ≤ length now
+    own-room : place + (phaseSize + eventSize * many q) ≤ length now
     own-room =
         let a = ap length (ahead begun w e .0) in
         omega (arith, length-append (w .written) (bytesOf (joinFrom phases q qs)), from-least q qs, w .fits, w .put .behind, w .put .many, w .put .kept)
 
-    own-write : {now1 now2 : List ℕ} {end : ℕ} → Put now (place + 105) (eventBytes q) (35 * many q) now1 end → now2 ≡ wrote now1 place (headBytes q)
+    own-write : {now1 now2 : List ℕ} {end : ℕ} → Put now (place + phaseSize) (eventBytes q) (eventSize * many q) now1 end → now2 ≡ wrote now1 place (headBytes q)
         → Writing room at target now2 true place (headAt q) end qs
     own-write y z =
         let h = head-length (headAt q) in
         record {
           fits = w .fits;
           written = w .written ++ (headBytes q ++ eventBytes q);
-          size = w .size + (length (headBytes q) + 35 * many q);
+          size = w .size + (length (headBytes q) + eventSize * many q);
           put = record-behind (w .put) (headBytes q) y (omega arith) (omega (arith, own-room)) z;
           made =
               record {
@@ -144,14 +145,14 @@ module _ {room : List ℕ} {at : ℕ} {target now : List ℕ} {stand : ℕ} {hea
               };
         }
 
-    own-ready : {now1 : List ℕ} {end : ℕ} → Put now (place + 105) (eventBytes q) (35 * many q) now1 end → Inside place 105 now1
+    own-ready : {now1 : List ℕ} {end : ℕ} → Put now (place + phaseSize) (eventBytes q) (eventSize * many q) now1 end → Inside place phaseSize now1
     own-ready y = omega (arith, own-room, y .kept)
 
     own-goes : Goes room at target now stand head place q qs false
     own-goes = record { begin = omega (arith, own-room, w .put .kept); space = omega (arith, own-room); count = omega arith; ready = own-ready; next = own-write }
 
   -- it joins, and amends the record of the span before
-  module _ (l : many q ≤ 1280) (w : Writing room at target now true stand head place (q ∷ qs)) (e : joinsNext (shows true head) q ≡ true) where
+  module _ (l : many q ≤ mostInSpan) (w : Writing room at target now true stand head place (q ∷ qs)) (e : joinsNext (shows true head) q ≡ true) where
     abbrev o : Ends at target (w .written) stand head (q ∷ qs)
     o = w .made
 
@@ -170,18 +171,18 @@ module _ {room : List ℕ} {at : ℕ} {target now : List ℕ} {stand : ℕ} {hea
     so-far : Put room at (o .done ++ (headBytes s ++ eventBytes s)) (w .size) now place
     so-far = subst (λ (x : List ℕ). Put room at x (w .size) now place) (o .parts) (w .put)
 
-    so-long : w .size ≡ length (o .done) + (105 + 35 * many s)
+    so-long : w .size ≡ length (o .done) + (phaseSize + eventSize * many s)
     so-long = sym (so-far .many) ∙ simp (length-append, head-length, events-length)
 
-    join-room : place + 35 * many q ≤ length now
+    join-room : place + eventSize * many q ≤ length now
     join-room =
         let t = ap length both-rest ∙ length-append (o .done) (bytesOf (joinFrom phases both qs)) in
         let n = length-append (s .body .events) (q .body .events) in
         omega (arith, so-long, from-least both qs, w .fits, w .put .behind, w .put .kept)
 
-    join-ready : {now1 : List ℕ} {end : ℕ} → Put now place (eventBytes q) (35 * many q) now1 end → Amends now1 stand (joinedHead head (headAt q))
+    join-ready : {now1 : List ℕ} {end : ℕ} → Put now place (eventBytes q) (eventSize * many q) now1 end → Amends now1 stand (joinedHead head (headAt q))
     join-ready {now1} y =
-        let inside : Inside stand 105 now1 = omega (arith, so-long, join-room, o .stands, w .put .behind, y .kept) in
+        let inside : Inside stand phaseSize now1 = omega (arith, so-long, join-room, o .stands, w .put .behind, y .kept) in
         record {
           old = head;
           inside = inside;
@@ -195,7 +196,7 @@ module _ {room : List ℕ} {at : ℕ} {target now : List ℕ} {stand : ℕ} {hea
           from = refl;
         }
 
-    join-write : {now1 now2 : List ℕ} {end : ℕ} → Put now place (eventBytes q) (35 * many q) now1 end
+    join-write : {now1 now2 : List ℕ} {end : ℕ} → Put now place (eventBytes q) (eventSize * many q) now1 end
         → now2 ≡ wrote now1 stand (encode (phase (phaseOf (joinedHead head (headAt q)))))
         → Writing room at target now2 true stand (joinedHead head (headAt q)) end qs
     join-write {now1} y z =
@@ -203,7 +204,7 @@ module _ {room : List ℕ} {at : ℕ} {target now : List ℕ} {stand : ℕ} {hea
         record {
           fits = w .fits;
           written = o .done ++ (headBytes both ++ (eventBytes s ++ eventBytes q));
-          size = w .size + 35 * many q;
+          size = w .size + eventSize * many q;
           put = amended (o .done) (headBytes s) (eventBytes s) so-far y join-room (o .stands) (headBytes both) h (z ∙ ap (λ (x : Phase). wrote now1 stand (encode (phase (phaseOf x)))) both-says);
           made =
               record {
@@ -227,7 +228,7 @@ module _ {room : List ℕ} {at : ℕ} {target now : List ℕ} {stand : ℕ} {hea
           next = join-write;
         }
 
-  pub goes : (joining begun : Bool) → many q ≤ 1280 → Writing room at target now begun stand head place (q ∷ qs) → joining ≡ joinsNext (shows begun head) q
+  pub goes : (joining begun : Bool) → many q ≤ mostInSpan → Writing room at target now begun stand head place (q ∷ qs) → joining ≡ joinsNext (shows begun head) q
       → Goes room at target now stand head place q qs joining
   goes false begun l w e = own-goes l begun w (sym e)
   goes true false l w e = absurd (let y : _≡_ {A = ℕ} 0 1 = cc in omega arith)

@@ -7,7 +7,7 @@ use lib.ListN.{length, length-append}
 use Rattle.wire.specs.Fields.{wrote, Inside, Put}
 use Rattle.wire.proofs.Writing.{wrote-in-front, wrote-over, wrote-length, also}
 use Rattle.answer.specs.Amending.{front, Amends}
-use Rattle.answer.specs.Forms.{phase, encode}
+use Rattle.answer.specs.Forms.{phase, encode, phaseSize, toPlace}
 use Rattle.answer.specs.Meaning.{phaseOf}
 use Rattle.answer.specs.declared.Phase.{Phase}
 use Rattle.answer.proofs.Amended.{begun-amends, begun-put}
@@ -51,9 +51,9 @@ module _ {room now : List ℕ} {at k place : ℕ} (done h behind : List ℕ) (w 
 -- it stands in t, and the whole that is written over it is written over s
 pub record Fronted (s t : List ℕ) (stand : ℕ) (head : Phase) : Type 0 where
   pub ready : Amends t stand head
-  pub whole : {u : List ℕ} {r : ℕ} → Put t stand (encode (phase (phaseOf head))) 105 u r → Put s stand (encode (phase (phaseOf head))) 105 u r
+  pub whole : {u : List ℕ} {r : ℕ} → Put t stand (encode (phase (phaseOf head))) phaseSize u r → Put s stand (encode (phase (phaseOf head))) phaseSize u r
 
-pub begun : {s t : List ℕ} {stand r : ℕ} (head : Phase) → Inside stand 105 s → Put s stand (front (phaseOf head)) 55 t r → Fronted s t stand head
+pub begun : {s t : List ℕ} {stand r : ℕ} (head : Phase) → Inside stand phaseSize s → Put s stand (front (phaseOf head)) (toPlace .from) t r → Fronted s t stand head
 begun head i p = record { ready = begun-amends head p i; whole = λ w. begun-put head p w i }
 
 pub stays : {s t : List ℕ} {stand : ℕ} {head : Phase} → Amends s stand head → t ≡ s → Fronted s t stand head

@@ -17,7 +17,7 @@ use Rattle.walk.specs.Walking.{ruleOf, pointOf, behind, Fits, Begun}
 use Rattle.walk.specs.Looking.{LeadsOn}
 use Rattle.walk.specs.declared.Walk.{Walk}
 use Rattle.walk.specs.declared.Piece.{Piece}
-use Rattle.answer.specs.Forms.{phase, encode, encodeAll}
+use Rattle.answer.specs.Forms.{phase, encode, encodeAll, phaseSize, eventSize}
 use Rattle.answer.specs.Meaning.{phaseOf}
 use Rattle.answer.specs.declared.Phase.{Phase}
 use Rattle.tell.specs.Shown.{Shown, eventForm}
@@ -27,11 +27,12 @@ use Rattle.joining.specs.Amending.{joinsLast, joinedHead}
 use Rattle.joining.specs.declared.Last.{Last}
 use Rattle.joining.proofs.Sizes.{many, headAt, eventBytes, joinsNext, bytesOf}
 use Rattle.joining.proofs.Steps as Walked
+use Rattle.spans.specs.Timeline.{turns}
 use Rattle.passes.specs.Private.{Recorded, pieceHead}
 use Rattle.passes.proofs.Passes.{shows, Writing, write-start, Goes, goes, write-end}
 
 -- so many records of 35 bytes
-pub its-length : {now now1 : List ℕ} {behind end n : ℕ} {vs : List ℕ} → Put now behind vs (35 * n) now1 end → (end - behind) / 35 ≡ n
+pub its-length : {now now1 : List ℕ} {behind end n : ℕ} {vs : List ℕ} → Put now behind vs (eventSize * n) now1 end → (end - behind) / eventSize ≡ n
 its-length p = let b = p .behind in omega arith
 
 module _ (s : List ℕ) (first : ℕ) (ats offsets rules events : List ℕ) (hi : ℕ) where
@@ -80,7 +81,7 @@ module _ (s : List ℕ) (first : ℕ) (ats offsets rules events : List ℕ) (hi 
 
   -- ---- from the first byte to the last
 
-  module _ (r : Ready s first ats offsets rules events) {lo : ℕ} {w : Walk} {a : List ℕ} (b : Begun s z (venueBy z g) 3659 lo w a) where
+  module _ (r : Ready s first ats offsets rules events) {lo : ℕ} {w : Walk} {a : List ℕ} (b : Begun s z (venueBy z g) (turns - 1) lo w a) where
     abbrev target : List ℕ
     target = encodeAll (phaseForms (walkSpans z g es lo hi))
 
@@ -124,13 +125,13 @@ module _ {s : List ℕ} {first : ℕ} {ats offsets rules events : List ℕ} {hi 
   pub its-count : {n : ℕ} → n ≡ its → cond b (head .events) 0 + n < 4294967296
   its-count x = omega (arith, its-many, t .goes .count)
 
-  module _ {trail : ℕ} (x : trail ≡ cond b place (place + 105)) where
-    pub its-room : Inside trail (35 * its) now
+  module _ {trail : ℕ} (x : trail ≡ cond b place (place + phaseSize)) where
+    pub its-room : Inside trail (eventSize * its) now
     its-room = omega (arith, its-many, t .goes .space)
 
-    module _ {now1 : List ℕ} {end : ℕ} (y : Put now trail (encodeAll (map eventForm (spanEvents zone (es s first ats offsets rules events hi) (q .start .0) (q .end .0)))) (35 * its) now1 end)
-        {new : Phase} (u : new ≡ pieceHead s zone q ((end - trail) / 35)) {stand′ : ℕ} (v : stand′ ≡ cond b stand place) {head′ : Phase} (d : head′ ≡ cond b (joinedHead head new) new) where
-      its-events : Put now (cond b place (place + 105)) (eventBytes own) (35 * many own) now1 end
+    module _ {now1 : List ℕ} {end : ℕ} (y : Put now trail (encodeAll (map eventForm (spanEvents zone (es s first ats offsets rules events hi) (q .start .0) (q .end .0)))) (eventSize * its) now1 end)
+        {new : Phase} (u : new ≡ pieceHead s zone q ((end - trail) / eventSize)) {stand′ : ℕ} (v : stand′ ≡ cond b stand place) {head′ : Phase} (d : head′ ≡ cond b (joinedHead head new) new) where
+      its-events : Put now (cond b place (place + phaseSize)) (eventBytes own) (eventSize * many own) now1 end
       its-events = rw (its-many, Walked.end-at s first ats offsets rules events hi q, ← x) y
 
       its-head : head′ ≡ cond b (joinedHead head (headAt own)) (headAt own)

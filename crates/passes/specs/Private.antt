@@ -10,11 +10,12 @@ use Rattle.walk.specs.declared.Piece.{Piece}
 use Rattle.answer.specs.Amending.{Amends}
 use Rattle.answer.specs.declared.Phase.{Phase}
 use Rattle.tell.specs.Shown.{headOf}
+use Rattle.answer.specs.Forms.{phaseSize}
 
 -- a record amends one that stands there, or there is room for it
 abbrev pub Recorded : List ℕ → ℕ → Bool → Phase → Type 0
 Recorded s stand true head = Amends s stand head
-Recorded s stand false head = Inside stand 105 s
+Recorded s stand false head = Inside stand phaseSize s
 
 -- a piece's record, with n events behind it
 abbrev pub pieceHead : List ℕ → Zone → Piece → ℕ → Phase

@@ -8,13 +8,13 @@ ghost use Rattle.zone.specs.Zone.{zoneOf};
 ghost use Rattle.zone.specs.Answers.{Valid};
 ghost use Rattle.venue.specs.Filled.{Ready};
 ghost use Rattle.walk.specs.Walking.{Fits};
-ghost use Rattle.answer.specs.Forms.{phase, encode, encodeAll};
+ghost use Rattle.answer.specs.Forms.{phase, encode, encodeAll, phaseSize};
 ghost use Rattle.answer.specs.Meaning.{phaseOf};
 ghost use Rattle.joining.specs.Amending.{joinedHead};
 ghost use Rattle.joining.specs.Walked.{walkForms};
 ghost use Rattle.passes.specs.Private.{Recorded, pieceHead};
-use answer::EVENT_BYTES;
-use answer::PHASE_BYTES;
+use answer::EVENT_SIZE;
+use answer::PHASE_SIZE;
 use answer::Phase;
 use answer::amend_phase;
 use answer::begin_phase;
@@ -79,10 +79,10 @@ fn head_of(book: &[u8], first: u32, ats: &[u64], offsets: &[u32], q: Piece, even
 
 // Where a span's events go: behind those of the record that it joins, or behind a record of its own.
 fn events_place(joining: bool, place: usize) -> usize
-    requires { ⌜ place + cond joining 0 105 < 2 ^ 64 ⌝ }
-    ensures { λ r. ⌜ r ≡ cond joining place (place + 105) ⌝ }
+    requires { ⌜ place + cond joining 0 phaseSize < 2 ^ 64 ⌝ }
+    ensures { λ r. ⌜ r ≡ cond joining place (place + phaseSize) ⌝ }
 {
-    if joining { place } else { place + PHASE_BYTES }
+    if joining { place } else { place + PHASE_SIZE }
 }
 
 // Where a span's record stands: where that of the span that it joins does, or behind all others.
@@ -193,7 +193,7 @@ pub fn put_walk(
                 );
                 let trail = events_place(joining, place);
                 let done = put_events(book, first, ats, offsets, events, start, end, out, trail);
-                let count = (done - trail) / EVENT_BYTES;
+                let count = (done - trail) / EVENT_SIZE;
                 let new = head_of(book, first, ats, offsets, q, count as u32);
                 stand = record_place(joining, stand, place);
                 head = told(joining, head, new);

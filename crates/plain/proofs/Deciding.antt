@@ -15,7 +15,7 @@ use Rattle.zone.specs.Throughout.{readsThroughout}
 use Rattle.zone.proofs.Throughout.{reads-all, all-read}
 use Rattle.records.specs.Records.{Point, Rule, Coverage, ruleAt}
 use Rattle.records.specs.Book.{records}
-use Rattle.venue.specs.Opening.{instantOf, coverageOf, atsOf, offsetsOf, places}
+use Rattle.venue.specs.Opening.{instantOf, coverageOf, atsOf, offsetsOf, rulePlaces}
 use Rattle.venue.specs.declared.opened.Header.{Header}
 use Rattle.venue.proofs.Known.{Known}
 use Rattle.spans.specs.Timeline.{Venue, Part, midnight}
@@ -207,7 +207,7 @@ book-decides s start end h = go (coverageOf (records s))
 
 -- as the code answers it, over an opened book
 pub opened-decides : (s : List ℕ) (h : Header) (k : Known s h) (w : Part) (r : Bool)
-    → Decides r (PlainWindow (venueBy (zoneOf (h .first) (atsOf (records s)) (offsetsOf (records s))) (governing (map (ruleAt s) (places 3 s)))) w)
+    → Decides r (PlainWindow (venueBy (zoneOf (h .first) (atsOf (records s)) (offsetsOf (records s))) (governing (map (ruleAt s) (rulePlaces s)))) w)
     → Decides r (PlainFor (records s) w (coverageOf (records s)))
 opened-decides s h k w r d =
     subst (λ (o : Option Coverage). Decides r (PlainFor (records s) w o)) (sym (k .is))

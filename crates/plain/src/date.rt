@@ -4,7 +4,7 @@ ghost use mathlib.Core.List.{map};
 ghost use Rattle.zone.specs.Zone.{zoneOf};
 ghost use Rattle.zone.specs.Answers.{Valid};
 ghost use Rattle.records.specs.Records.{ruleAt};
-ghost use Rattle.venue.specs.Reading.{Listed, AllListed};
+ghost use Rattle.venue.specs.Reading.{ListedRule, ListedRules};
 ghost use Rattle.day.specs.Governing.{governing as Governing·governing};
 ghost use Rattle.plain.specs.Deciding.{rises as Deciding·rises, inOrder, plainDate, takenAt};
 use calendar::Day;
@@ -29,7 +29,7 @@ fn rises(
     from: Instant,
     to: Instant,
 ) -> bool
-    requires { ⌜ Valid first (now ats) (now offsets) × Listed 3 (now book) rule ⌝ }
+    requires { ⌜ Valid first (now ats) (now offsets) × ListedRule (now book) rule ⌝ }
     ensures { λ r. ⌜ r ≡ Deciding·rises (takenAt (zoneOf first (now (ats .entry)) (now (offsets .entry))) (d .0)) (from .0) (to .0)
         (ruleAt (now (book .entry)) rule .points) ⌝ }
 {
@@ -67,7 +67,7 @@ fn in_order(
     from: Instant,
     to: Instant,
 ) -> bool
-    requires { ⌜ Valid first (now ats) (now offsets) × AllListed 3 (now book) (now rules) ⌝ }
+    requires { ⌜ Valid first (now ats) (now offsets) × ListedRules (now book) (now rules) ⌝ }
     ensures { λ r. ⌜ r ≡ inOrder (takenAt (zoneOf first (now (ats .entry)) (now (offsets .entry))) (d .0)) (from .0) (to .0)
         (Governing·governing (map (ruleAt (now (book .entry))) (now (rules .entry))) (d .0)) ⌝ }
 {
@@ -85,7 +85,7 @@ pub(crate) fn is_plain_date(
     rules: &[u32],
     d: Day,
 ) -> bool
-    requires { ⌜ Valid first (now ats) (now offsets) × AllListed 3 (now book) (now rules) ⌝ }
+    requires { ⌜ Valid first (now ats) (now offsets) × ListedRules (now book) (now rules) ⌝ }
     ensures { λ r. ⌜ r ≡ plainDate (zoneOf first (now (ats .entry)) (now (offsets .entry)))
         (Governing·governing (map (ruleAt (now (book .entry))) (now (rules .entry)))) (d .0) ⌝ }
 {

@@ -5,7 +5,7 @@ ghost use Prim.Native.Nat.{_<_, _^_};
 ghost use Rattle.zone.specs.Zone.{zoneOf};
 ghost use Rattle.zone.specs.Answers.{Valid};
 ghost use Rattle.records.specs.Records.{ruleAt};
-ghost use Rattle.venue.specs.Reading.{AllListed};
+ghost use Rattle.venue.specs.Reading.{ListedRules};
 ghost use Rattle.day.specs.Governing.{governing};
 ghost use Rattle.day.specs.Days.{venueBy};
 ghost use Rattle.plain.specs.Plain.{PlainWindow};
@@ -30,7 +30,7 @@ fn reaches(
     d: Day,
     end: Instant,
 ) -> bool
-    requires { ⌜ Valid first (now ats) (now offsets) × AllListed 3 (now book) (now rules) × (d .0 < 2 ^ 17) ⌝ }
+    requires { ⌜ Valid first (now ats) (now offsets) × ListedRules (now book) (now rules) × (d .0 < 2 ^ 17) ⌝ }
     ensures { λ r. ⌜ r ≡ Deciding·reaches (zoneOf first (now (ats .entry)) (now (offsets .entry)))
         (governing (map (ruleAt (now (book .entry))) (now (rules .entry)))) (end .0) mostDates (d .0) ⌝ }
 {
@@ -60,7 +60,7 @@ pub fn is_plain(
     start: Instant,
     end: Instant,
 ) -> bool
-    requires { ⌜ Valid first (now ats) (now offsets) × AllListed 3 (now book) (now rules) × (start .0 < end .0) ⌝ }
+    requires { ⌜ Valid first (now ats) (now offsets) × ListedRules (now book) (now rules) × (start .0 < end .0) ⌝ }
     ensures { λ r. ⌜ Decides r (PlainWindow (venueBy (zoneOf first (now (ats .entry)) (now (offsets .entry)))
         (governing (map (ruleAt (now (book .entry))) (now (rules .entry))))) (record { start = start .0; end = end .0 })) ⌝ }
 {

@@ -20,7 +20,7 @@ use Rattle.day.specs.Days.{Held, valuesOf, pointOf}
 use Rattle.day.proofs.Theorems.{point-whole}
 use Rattle.day.proofs.Listed.{governing-listed, source-good, span-under}
 use Rattle.answer.specs.Forms as Forms
-use Rattle.answer.specs.Forms.{Missing, fieldsOf, phasePlace, evidencePlace, encode, encodeAll}
+use Rattle.answer.specs.Forms.{Missing, fieldsOf, phasePlace, evidencePlace, encode, encodeAll, phaseKind}
 use Rattle.point.specs.Asking.{byPoint, byCoverage, pointAnswer}
 use Rattle.point.specs.Said.{pointMark, pointSaid}
 
@@ -53,7 +53,7 @@ module _ (p : Forms.Phase) (after : List ℕ) where
   abbrev before : List Field
   before = put size 103 ∷ put kind 16 ∷ putSigned w64 Forms.start (p .start) ∷ putSigned w64 Forms.end (p .end) ∷ []
 
-  known-kind : number kind known 0 ≡ 16
+  known-kind : number kind known 0 ≡ phaseKind
   unfolding encode
   known-kind = one-field (put size 103 ∷ []) (put kind 16) (fieldsOf (Forms.phase p)) after (omega arith)
 

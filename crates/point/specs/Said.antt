@@ -7,7 +7,7 @@ use lib.Dec.{eqb}
 use Rattle.records.specs.Layout.{number, kind}
 use Rattle.spans.specs.Spans.{Mark, phase}
 use Rattle.day.specs.Days.{Held}
-use Rattle.answer.specs.Forms.{phasePlace, evidencePlace}
+use Rattle.answer.specs.Forms.{phasePlace, evidencePlace, phaseKind}
 
 abbrev pub pointMark : Option Held → Option Mark
 pointMark none = none
@@ -15,4 +15,4 @@ pointMark (some h) = some (phase (h .phase) (h .rule .evidence))
 
 -- a known point is kind 16
 unfoldable pub pointSaid : List ℕ → Option Mark
-pointSaid s = cond (eqb (number kind s 0) 16) (some (phase (number phasePlace s 0) (number evidencePlace s 0))) none
+pointSaid s = cond (eqb (number kind s 0) phaseKind) (some (phase (number phasePlace s 0) (number evidencePlace s 0))) none

@@ -5,7 +5,7 @@ ghost use lib.ListN.{length};
 ghost use Rattle.zone.specs.Zone.{zoneOf};
 ghost use Rattle.zone.specs.Answers.{Valid};
 ghost use Rattle.records.specs.Records.{eventAt};
-ghost use Rattle.venue.specs.Reading.{Listed, AllListed};
+ghost use Rattle.venue.specs.Reading.{ListedRule, ListedEvents};
 ghost use Rattle.venue.specs.Filled.{Filled, Ready};
 ghost use Rattle.day.specs.Meaning.{heldBy, valuesAt};
 ghost use Rattle.answer.specs.Forms.{point as Forms·point, encode, encodeAll};
@@ -13,17 +13,15 @@ ghost use Rattle.answer.specs.Meaning.{missingOf};
 ghost use Rattle.answer.specs.declared.Covered.the-variants.{Between};
 ghost use Rattle.lend.specs.Lending.{Lent};
 ghost use Rattle.tell.specs.Shown.{shown, shownForms};
+ghost use Rattle.records.specs.Limits.{base};
 ghost use Rattle.point.specs.Asking.{pointNumber, pointAnswer};
 ghost use Rattle.point.specs.Private.{told};
 use answer::Covered;
-use answer::EVENT_BYTES;
-use answer::MISSING_BYTES;
-use answer::PHASE_BYTES;
+use answer::EVENT_SIZE;
+use answer::MISSING_SIZE;
+use answer::PHASE_SIZE;
 use answer::put_missing;
 use answer::put_phase;
-use book::MOST_EVENTS;
-use book::MOST_RULES;
-use book::MOST_TRANSITIONS;
 use day::Segment;
 use day::Spanned;
 use day::point;
@@ -35,6 +33,9 @@ use lend::refused;
 use query::Asked;
 use query::OUTSIDE;
 use query::asked_at;
+use records::MOST_EVENTS;
+use records::MOST_RULES;
+use records::MOST_TRANSITIONS;
 use tell::phase_of;
 use tell::put_events;
 use venue::Header;
@@ -46,7 +47,7 @@ use zone::widest;
 fn tell_missing(out: &mut [u8], t: Instant, c: Covered) -> Reply
     ensures { λ r. ⌜ Lent 0 (encode (Forms·point (missingOf (t .0) c))) (now (out .entry)) (now (out .exit)) r ⌝ }
 {
-    if out.len() < MISSING_BYTES {
+    if out.len() < MISSING_SIZE {
         return refused(NO_ROOM);
     }
     let n = put_missing(out, 0, t, c);
@@ -62,8 +63,8 @@ fn tell_known(
     g: Segment,
     out: &mut [u8],
 ) -> Reply
-    requires { ⌜ Valid first (now ats) (now offsets) × AllListed 4 (now book) (now events) × (length (now events) ≤ 32)
-        × Listed 3 (now book) (g .rule) ⌝ }
+    requires { ⌜ Valid first (now ats) (now offsets) × ListedEvents (now book) (now events) × (length (now events) ≤ base .events)
+        × ListedRule (now book) (g .rule) ⌝ }
     ensures { λ r. ⌜ Lent 0
         (encodeAll (shownForms (g .start .at .0) (g .end .at .0)
         (shown (zoneOf first (now (ats .entry)) (now (offsets .entry))) (map (eventAt (now (book .entry))) (now (events .entry)))
@@ -77,7 +78,7 @@ fn tell_known(
     let before = start.uncertainty;
     let behind = end.uncertainty;
     let count = count_events(book, first, ats, offsets, events, from, to);
-    let length = PHASE_BYTES + EVENT_BYTES * count;
+    let length = PHASE_SIZE + EVENT_SIZE * count;
     if out.len() < length {
         return refused(NO_ROOM);
     }

@@ -16,11 +16,11 @@ use Rattle.wire.specs.Fields.{field, Field, laid}
 use Rattle.wire.specs.Signs.{signed}
 use Rattle.wire.proofs.Reading.{field-below}
 use Rattle.wire.proofs.Signs.{turned-meant}
-use Rattle.records.specs.Layout.{number, size, coverageStart, coverageEnd, coverageOffset, transitionInstant, transitionOffset, dayFirst, dayLast}
+use Rattle.records.specs.Layout.{number, size, coverageStart, coverageEnd, coverageOffset, transitionInstant, transitionOffset, dayFirst, dayLast, lengthOf, coverageKind, transitionKind, ruleKind, eventKind, headSize}
 use Rattle.records.specs.Layout.{ruleLabel, ruleEvidence, ruleDerived, eventCode, eventEvidence, nanoseconds, text, count, time, step}
 use Rattle.records.specs.Records.{Point, Record, coverage, transition, rule, event, kindOf, put, pointFields, timeFields, fieldsOf, body, encode}
 use Rattle.records.specs.Records.{pointsAt, timesAt, coverageAt, transitionAt, ruleAt, eventAt, recordAt}
-use Rattle.records.specs.Book.{kindAt, nextAt, lengthOf, badFrame}
+use Rattle.records.specs.Book.{kindAt, nextAt, badFrame}
 use Rattle.records.specs.Frame.{Framed}
 use Rattle.records.specs.Valid.{Bytes, Fits}
 use Rattle.records.proofs.Frames.{Kind, one, two, three, four, kind-of, is-one, is-two, is-three, is-four}
@@ -35,11 +35,11 @@ itemsOf (transition t) = 0
 itemsOf (rule r) = length (r .points)
 itemsOf (event e) = length (e .times)
 
-points-span : (ps : List Point) → span (pointFields ps) ≡ step 3 * length ps
+points-span : (ps : List Point) → span (pointFields ps) ≡ step ruleKind * length ps
 points-span [] = refl
 points-span (p ∷ ps) = omega (arith, points-span ps)
 
-times-span : (ts : List ℕ) → span (timeFields ts) ≡ step 4 * length ts
+times-span : (ts : List ℕ) → span (timeFields ts) ≡ step eventKind * length ts
 times-span [] = refl
 times-span (t ∷ ts) = omega (arith, times-span ts)
 
@@ -82,28 +82,28 @@ signed-back w x z f e = ap (signed w) e ∙ turned-meant w (ofZ w z) (ofZ-fits w
 points-many : (s : List ℕ) (at n : ℕ) → length (pointsAt s at n) ≡ n
 unfolding pointsAt
 points-many s at zero = refl
-points-many s at (suc n) = ap suc (points-many s (at + step 3) n)
+points-many s at (suc n) = ap suc (points-many s (at + step ruleKind) n)
 
 times-many : (s : List ℕ) (at n : ℕ) → length (timesAt s at n) ≡ n
 unfolding timesAt
 times-many s at zero = refl
-times-many s at (suc n) = ap suc (times-many s (at + step 4) n)
+times-many s at (suc n) = ap suc (times-many s (at + step eventKind) n)
 
-points-say : (s : List ℕ) (at n : ℕ) → Says (pointFields (pointsAt s at n)) s at (time 3 .from)
+points-say : (s : List ℕ) (at n : ℕ) → Says (pointFields (pointsAt s at n)) s at (time ruleKind .from)
 unfolding pointsAt
 points-say s at zero = tt
 points-say s at (suc n) =
-    let next = at + step 3 in
-    let place = time 3 .from in
-    (refl, (refl, moved (pointFields (pointsAt s next n)) s next place at (place + step 3) (omega arith) (points-say s next n)))
+    let next = at + step ruleKind in
+    let place = time ruleKind .from in
+    (refl, (refl, moved (pointFields (pointsAt s next n)) s next place at (place + step ruleKind) (omega arith) (points-say s next n)))
 
-times-say : (s : List ℕ) (at n : ℕ) → Says (timeFields (timesAt s at n)) s at (time 4 .from)
+times-say : (s : List ℕ) (at n : ℕ) → Says (timeFields (timesAt s at n)) s at (time eventKind .from)
 unfolding timesAt
 times-say s at zero = tt
 times-say s at (suc n) =
-    let next = at + step 4 in
-    let place = time 4 .from in
-    (refl, moved (timeFields (timesAt s next n)) s next place at (place + step 4) (omega arith) (times-say s next n))
+    let next = at + step eventKind in
+    let place = time eventKind .from in
+    (refl, moved (timeFields (timesAt s next n)) s next place at (place + step eventKind) (omega arith) (times-say s next n))
 
 module _ (s : List ℕ) (b : Bytes s) (at : ℕ) where
   long : (i : ℕ) → field 8 s (at + i) ≡ ofZ w64 (signed w64 (field 8 s (at + i)))
@@ -116,49 +116,49 @@ module _ (s : List ℕ) (b : Bytes s) (at : ℕ) where
   below i = field-below 2 s (at + i) b
 
   module _ (z : number size s at ≡ lengthOf (kindAt s at) (number (count (kindAt s at)) s at)) where
-    one-stands : kindAt s at ≡ 1 → Stands (coverage (coverageAt s at)) s at
+    one-stands : kindAt s at ≡ coverageKind → Stands (coverage (coverageAt s at)) s at
     one-stands k =
-        let y : number size s at ≡ lengthOf 1 0 = rw k at z in
+        let y : number size s at ≡ lengthOf coverageKind 0 = rw k at z in
         let start = long (coverageStart .from) in
         let end = long (coverageEnd .from) in
         let offset = short (coverageOffset .from) in
         (y ∙ sym (body-length (coverage (coverageAt s at))), (k, (start, (end, (offset, tt)))))
 
-    two-stands : kindAt s at ≡ 2 → Stands (transition (transitionAt s at)) s at
+    two-stands : kindAt s at ≡ transitionKind → Stands (transition (transitionAt s at)) s at
     two-stands k =
-        let y : number size s at ≡ lengthOf 2 0 = rw k at z in
+        let y : number size s at ≡ lengthOf transitionKind 0 = rw k at z in
         let instant = long (transitionInstant .from) in
         let offset = short (transitionOffset .from) in
         (y ∙ sym (body-length (transition (transitionAt s at))), (k, (instant, (offset, tt))))
 
-    three-stands : kindAt s at ≡ 3 → Stands (rule (ruleAt s at)) s at
+    three-stands : kindAt s at ≡ ruleKind → Stands (rule (ruleAt s at)) s at
     three-stands k =
-        let n = number (count 3) s at in
-        let y : number size s at ≡ lengthOf 3 n = rw k at z in
+        let n = number (count ruleKind) s at in
+        let y : number size s at ≡ lengthOf ruleKind n = rw k at z in
         let m = points-many s at n in
-        let x : length (body (rule (ruleAt s at))) ≡ lengthOf 3 n = body-length (rule (ruleAt s at)) ∙ ap (lengthOf 3) m in
+        let x : length (body (rule (ruleAt s at))) ≡ lengthOf ruleKind n = body-length (rule (ruleAt s at)) ∙ ap (lengthOf ruleKind) m in
         let first = short (dayFirst .from) in
         let last = short (dayLast .from) in
-        let width = long (nanoseconds 3 .from) in
+        let width = long (nanoseconds ruleKind .from) in
         (y ∙ sym x, (k, (first, (last, (refl, (refl, (refl, (refl, (refl, (refl, (width, (refl, (sym m, points-say s at n)))))))))))))
 
-    four-stands : kindAt s at ≡ 4 → Stands (event (eventAt s at)) s at
+    four-stands : kindAt s at ≡ eventKind → Stands (event (eventAt s at)) s at
     four-stands k =
-        let n = number (count 4) s at in
-        let y : number size s at ≡ lengthOf 4 n = rw k at z in
+        let n = number (count eventKind) s at in
+        let y : number size s at ≡ lengthOf eventKind n = rw k at z in
         let m = times-many s at n in
-        let x : length (body (event (eventAt s at))) ≡ lengthOf 4 n = body-length (event (eventAt s at)) ∙ ap (lengthOf 4) m in
+        let x : length (body (event (eventAt s at))) ≡ lengthOf eventKind n = body-length (event (eventAt s at)) ∙ ap (lengthOf eventKind) m in
         let first = short (dayFirst .from) in
         let last = short (dayLast .from) in
-        let width = long (nanoseconds 4 .from) in
+        let width = long (nanoseconds eventKind .from) in
         (y ∙ sym x, (k, (first, (last, (refl, (refl, (refl, (width, (refl, (sym m, times-say s at n))))))))))
 
   fits-three : Fits (rule (ruleAt s at))
   fits-three =
-      record { label = below (ruleLabel .from); evidence = below (ruleEvidence .from); derived = below (ruleDerived .from); text = below (text 3 .from) }
+      record { label = below (ruleLabel .from); evidence = below (ruleEvidence .from); derived = below (ruleDerived .from); text = below (text ruleKind .from) }
 
   fits-four : Fits (event (eventAt s at))
-  fits-four = record { code = below (eventCode .from); evidence = below (eventEvidence .from); text = below (text 4 .from) }
+  fits-four = record { code = below (eventCode .from); evidence = below (eventEvidence .from); text = below (text eventKind .from) }
 
   pub framed-stands : Framed s at → Stands (recordAt s at) s at × Fits (recordAt s at)
   framed-stands f = go (kind-of s at (kindAt s at) f refl)
@@ -191,46 +191,46 @@ frame-good : (s : List ℕ) (at : ℕ) → Framed s at → badFrame s at ≡ fal
 unfolding badFrame
 frame-good s at f =
     simp (
-      le-ltb (length s) (at + 4) (f .head),
+      le-ltb (length s) (at + headSize) (f .head),
       le-ltb (length s) (nextAt s at) (f .whole),
-      le-ltb (kindAt s at) 1 (f .kind-low),
-      le-ltb 4 (kindAt s at) (f .kind-high),
+      le-ltb (kindAt s at) coverageKind (f .kind-low),
+      le-ltb eventKind (kindAt s at) (f .kind-high),
       eq-eqb _ _ (f .sized),
     )
 
 stands-framed : (r : Record) (s : List ℕ) (at : ℕ) → Stands r s at → nextAt s at ≤ length s → Framed s at
 stands-framed (coverage c) s at (z, (k, p)) h =
-    let y : number size s at ≡ lengthOf 1 0 = z ∙ body-length (coverage c) in
+    let y : number size s at ≡ lengthOf coverageKind 0 = z ∙ body-length (coverage c) in
     record { kind-low = omega arith; kind-high = omega arith; head = omega arith; whole = h; sized = rw k y }
 stands-framed (transition t) s at (z, (k, p)) h =
-    let y : number size s at ≡ lengthOf 2 0 = z ∙ body-length (transition t) in
+    let y : number size s at ≡ lengthOf transitionKind 0 = z ∙ body-length (transition t) in
     record { kind-low = omega arith; kind-high = omega arith; head = omega arith; whole = h; sized = rw k y }
 stands-framed (rule r) s at (z, (k, (_, (_, (_, (_, (_, (_, (_, (_, (_, (_, (n, p))))))))))))) h =
-    let y : number size s at ≡ lengthOf 3 (number (count 3) s at) = z ∙ body-length (rule r) ∙ ap (lengthOf 3) (sym n) in
+    let y : number size s at ≡ lengthOf ruleKind (number (count ruleKind) s at) = z ∙ body-length (rule r) ∙ ap (lengthOf ruleKind) (sym n) in
     record { kind-low = omega arith; kind-high = omega arith; head = omega arith; whole = h; sized = rw k y }
 stands-framed (event e) s at (z, (k, (_, (_, (_, (_, (_, (_, (_, (n, p)))))))))) h =
-    let y : number size s at ≡ lengthOf 4 (number (count 4) s at) = z ∙ body-length (event e) ∙ ap (lengthOf 4) (sym n) in
+    let y : number size s at ≡ lengthOf eventKind (number (count eventKind) s at) = z ∙ body-length (event e) ∙ ap (lengthOf eventKind) (sym n) in
     record { kind-low = omega arith; kind-high = omega arith; head = omega arith; whole = h; sized = rw k y }
 
 pub good-frame : (r : Record) (s : List ℕ) (at : ℕ) → Stands r s at → nextAt s at ≤ length s → badFrame s at ≡ false
 good-frame r s at p h = frame-good s at (stands-framed r s at p h)
 
-points-read : (ps : List Point) (s : List ℕ) (at : ℕ) → Says (pointFields ps) s at (time 3 .from) → pointsAt s at (length ps) ≡ ps
+points-read : (ps : List Point) (s : List ℕ) (at : ℕ) → Says (pointFields ps) s at (time ruleKind .from) → pointsAt s at (length ps) ≡ ps
 unfolding pointsAt
 points-read [] s at p = refl
 points-read (q ∷ ps) s at p =
-    let next = at + step 3 in
-    let place = time 3 .from in
-    let on = points-read ps s next (moved (pointFields ps) s at (place + step 3) next place (omega arith) (p .1 .1)) in
+    let next = at + step ruleKind in
+    let place = time ruleKind .from in
+    let on = points-read ps s next (moved (pointFields ps) s at (place + step ruleKind) next place (omega arith) (p .1 .1)) in
     rw (p .0, p .1 .0, on)
 
-times-read : (ts : List ℕ) (s : List ℕ) (at : ℕ) → Says (timeFields ts) s at (time 4 .from) → timesAt s at (length ts) ≡ ts
+times-read : (ts : List ℕ) (s : List ℕ) (at : ℕ) → Says (timeFields ts) s at (time eventKind .from) → timesAt s at (length ts) ≡ ts
 unfolding timesAt
 times-read [] s at p = refl
 times-read (t ∷ ts) s at p =
-    let next = at + step 4 in
-    let place = time 4 .from in
-    let on = times-read ts s next (moved (timeFields ts) s at (place + step 4) next place (omega arith) (p .1)) in
+    let next = at + step eventKind in
+    let place = time eventKind .from in
+    let on = times-read ts s next (moved (timeFields ts) s at (place + step eventKind) next place (omega arith) (p .1)) in
     rw (p .0, on)
 
 -- a record's integers fit their widths
@@ -253,10 +253,10 @@ read (transition t) (f, g) s at (_, (k, (a, (b, _)))) =
 read (rule r) (f, g, h) s at (_, (k, (a, (b, (c, (m, (l, (v, (d, (t, (u, (x, (n, p))))))))))))) =
     let first = signed-back w32 (number dayFirst s at) (r .first) f a in
     let last = signed-back w32 (number dayLast s at) (r .last) g b in
-    let width = signed-back w64 (number (nanoseconds 3) s at) (r .uncertainty .nanoseconds) h u in
+    let width = signed-back w64 (number (nanoseconds ruleKind) s at) (r .uncertainty .nanoseconds) h u in
     rw k (rw (first, last, width, c, m, l, v, d, t, x, n, points-read (r .points) s at p))
 read (event e) (f, g, h) s at (_, (k, (a, (b, (c, (v, (t, (u, (x, (n, p)))))))))) =
     let first = signed-back w32 (number dayFirst s at) (e .first) f a in
     let last = signed-back w32 (number dayLast s at) (e .last) g b in
-    let width = signed-back w64 (number (nanoseconds 4) s at) (e .uncertainty .nanoseconds) h u in
+    let width = signed-back w64 (number (nanoseconds eventKind) s at) (e .uncertainty .nanoseconds) h u in
     rw k (rw (first, last, width, c, v, t, x, n, times-read (e .times) s at p))

@@ -16,6 +16,7 @@ use Rattle.records.specs.Records.{Record, coverage, transition, rule, ev
 use Rattle.records.specs.Book.{headless, many, most, lastInstant, closer, spacing, tooMany, tooClose}
 use Rattle.records.specs.Valid.{Fits, AllSound, Headed, instantsOf, Spaced, Valid}
 use Rattle.records.proofs.Cascade.{Passed}
+use Rattle.records.specs.Layout.{coverageKind}
 
 -- each record passes after those before it, the latest first
 abbrev pub Follow : Limits → List Record → List Record → Type 0
@@ -111,7 +112,7 @@ apart-after l before (r ∷ rs) f = apart-forth before r rs (f .0 .apart) (apart
 
 pub follow-headed : (l : Limits) (rs : List Record) → Follow l [] rs → Headed rs
 follow-headed l [] f = tt
-follow-headed l (r ∷ rs) f = eqb-true (kindOf r) 1 (not-false _ (f .0 .headed))
+follow-headed l (r ∷ rs) f = eqb-true (kindOf r) coverageKind (not-false _ (f .0 .headed))
 
 pub follow-few : (l : Limits) (rs : List Record) → Follow l [] rs → (k : ℕ) → many k rs ≤ most l k
 follow-few l rs f k = omega (arith, few-after l k [] rs f (omega arith))
@@ -135,7 +136,7 @@ HeadedAfter [] rs = Headed rs
 HeadedAfter (b ∷ before) rs = Unit {0}
 
 headed-one : (before : List Record) (r : Record) (rs : List Record) → HeadedAfter before (r ∷ rs) → headless before r ≡ false
-headed-one [] r rs h = simp (eq-eqb (kindOf r) 1 h)
+headed-one [] r rs h = simp (eq-eqb (kindOf r) coverageKind h)
 headed-one (b ∷ before) r rs h = refl
 
 follow-after : (l : Limits) (before rs : List Record) → HeadedAfter before rs → ((k : ℕ) → many k before + many k rs ≤ most l k) → AllSound l rs

@@ -10,7 +10,7 @@ use lib.Signed.{leZ}
 use mir.Syntax.{Width}
 use Rattle.wire.specs.Signs.{meant}
 use Rattle.wire.proofs.Signs.{order-le}
-use Rattle.records.specs.Layout.{by}
+use Rattle.records.specs.Layout.{by, coverageKind, transitionKind, ruleKind}
 use Rattle.records.specs.Book.{inside}
 use Rattle.records.specs.Frame.{placedRange}
 
@@ -48,5 +48,5 @@ pub above-test : (w : Width) (x p : ℕ) → ltb x p ≡ not (leZ (meant w p) (m
 above-test w x p = sym (ap not (order-le w p x) ∙ not-leb p x)
 
 -- by the kind of a record, where it is none of the first three
-pub by-rest : {A : Type 0} {k : ℕ} (a b c d : A) → (k ≡ 1 → ⊥) → (k ≡ 2 → ⊥) → (k ≡ 3 → ⊥) → by k a b c d ≡ d
+pub by-rest : {A : Type 0} {k : ℕ} (a b c d : A) → (k ≡ coverageKind → ⊥) → (k ≡ transitionKind → ⊥) → (k ≡ ruleKind → ⊥) → by k a b c d ≡ d
 by-rest a b c d n1 n2 n3 = simp (ne-eqb _ _ n1, ne-eqb _ _ n2, ne-eqb _ _ n3)

@@ -9,7 +9,7 @@ use lib.ListN.{length}
 use lib.Signed.{ltZ, leZ}
 use Rattle.zone.specs.Units.{secondNs, dayNs}
 use Rattle.records.specs.Layout
-use Rattle.records.specs.Layout.{number, size, kind, by}
+use Rattle.records.specs.Layout.{number, size, kind, by, coverageKind, eventKind, headSize, lengthOf}
 use Rattle.records.specs.Limits.{Limits}
 use Rattle.records.specs.Records.{Published, Point, Rule, Record, coverage, transition, rule, event, kindOf, recordAt}
 
@@ -57,17 +57,13 @@ kindAt s at = number kind s at
 abbrev pub nextAt : List ℕ → ℕ → ℕ
 nextAt s at = at + 2 + number size s at
 
--- the length L of a kind, with n points or times
-abbrev pub lengthOf : ℕ → ℕ → ℕ
-lengthOf k n = by k 22 14 (30 + 9 * n) (26 + 8 * n)
-
 unfoldable pub badFrame : List ℕ → ℕ → Bool
 badFrame s at =
-    (ltb (length s) (at + 4) || ltb (length s) (nextAt s at))
-    || ((ltb (kindAt s at) 1 || ltb 4 (kindAt s at)) || not (eqb (number size s at) (lengthOf (kindAt s at) (number (Layout.count (kindAt s at)) s at))))
+    (ltb (length s) (at + headSize) || ltb (length s) (nextAt s at))
+    || ((ltb (kindAt s at) coverageKind || ltb eventKind (kindAt s at)) || not (eqb (number size s at) (lengthOf (kindAt s at) (number (Layout.count (kindAt s at)) s at))))
 
 abbrev pub headless : List Record → Record → Bool
-headless [] r = not (eqb (kindOf r) 1)
+headless [] r = not (eqb (kindOf r) coverageKind)
 headless (b ∷ before) r = false
 
 -- ---- 3: too many of a kind, a second kind 1 included

@@ -3,10 +3,10 @@ use Prim.Native.Nat.{ℕ, _+_, _≤_}
 use mathlib.Core.Path.{_≡_}
 use mathlib.Core.List.{List}
 use lib.ListN.{length}
-use Rattle.records.specs.Layout.{number, size, by, count}
+use Rattle.records.specs.Layout.{number, size, by, count, lengthOf, coverageKind, eventKind, headSize}
 use mir.Syntax.{Width}
 use Rattle.wire.specs.Signs.{meant}
-use Rattle.records.specs.Book.{Range, kindAt, nextAt, lengthOf}
+use Rattle.records.specs.Book.{Range, kindAt, nextAt}
 
 -- from one placed number to another
 abbrev pub placedRange : Width → ℕ → ℕ → Range
@@ -18,8 +18,8 @@ itemsAt s at = by (kindAt s at) 0 0 (number (count (kindAt s at)) s at) (number 
 
 -- a record whose length is right
 pub record Framed (s : List ℕ) (at : ℕ) : Type 0 where
-  pub kind-low : 1 ≤ kindAt s at
-  pub kind-high : kindAt s at ≤ 4
-  pub head : at + 4 ≤ length s
+  pub kind-low : coverageKind ≤ kindAt s at
+  pub kind-high : kindAt s at ≤ eventKind
+  pub head : at + headSize ≤ length s
   pub whole : nextAt s at ≤ length s
   pub sized : number size s at ≡ lengthOf (kindAt s at) (number (count (kindAt s at)) s at)

@@ -1,6 +1,6 @@
 -- Where the fields of a record stand, each said once: behind the one before it, so many bytes wide. Assumes nothing.
-use Prim.Native.Nat.{ℕ, _+_}
-use mathlib.Core.Bool.{cond}
+use Prim.Native.Nat.{ℕ, _+_, _*_}
+use mathlib.Core.Bool.{Bool, cond, _||_}
 use mathlib.Core.List.{List}
 use lib.Dec.{eqb}
 use lib.IntN.{ℤ}
@@ -24,12 +24,43 @@ number p s at = field (p .width) s (at + p .from)
 abbrev pub integer : Width → Place → List ℕ → ℕ → ℤ
 integer w p s at = signed w (number p s at)
 
+-- ---- kinds
+
+abbrev pub coverageKind : ℕ
+coverageKind = 1
+
+abbrev pub transitionKind : ℕ
+transitionKind = 2
+
+abbrev pub ruleKind : ℕ
+ruleKind = 3
+
+abbrev pub eventKind : ℕ
+eventKind = 4
+
+-- which of them are rules
+abbrev pub isRule : ℕ → Bool
+isRule k = eqb k ruleKind
+
+-- rules and events have a first and a last day, an uncertainty and n points or times
+abbrev pub isDated : ℕ → Bool
+isDated k = isRule k || eqb k eventKind
+
+-- by the kind of a record: what is so of coverage, of a transition, of a rule, of any other
+abbrev pub by : {A : Type 0} → ℕ → A → A → A → A → A
+by k covers changes rules happens = cond (eqb k coverageKind) covers (cond (eqb k transitionKind) changes (cond (isRule k) rules happens))
+
+-- ---- fields
+
 -- Every record: 2-byte length L of what follows, 2-byte kind
 abbrev pub size : Place
 size = record { from = 0; width = 2 }
 
 abbrev pub kind : Place
 kind = then size 2
+
+abbrev pub headSize : ℕ
+headSize = size .width + kind .width
 
 -- Kind 1: coverage start i64, end i64, first offset i32
 abbrev pub coverageStart : Place
@@ -78,13 +109,9 @@ eventCode = then dayLast 2
 abbrev pub eventEvidence : Place
 eventEvidence = then eventCode 2
 
--- by the kind of a record: what is so of kind 1, of kind 2, of kind 3, of any other
-abbrev pub by : {A : Type 0} → ℕ → A → A → A → A → A
-by k one two three four = cond (eqb k 1) one (cond (eqb k 2) two (cond (eqb k 3) three four))
-
 -- Kinds 3 and 4 go on, behind a field of their own: uncertainty tag u8, nanoseconds i64, text u16, n u8
 abbrev pub beforeTag : ℕ → Place
-beforeTag k = cond (eqb k 3) ruleDerived eventEvidence
+beforeTag k = cond (isRule k) ruleDerived eventEvidence
 
 abbrev pub tag : ℕ → Place
 tag k = then (beforeTag k) 1
@@ -107,4 +134,17 @@ phase k = then (time k) 1
 
 -- from one of the n to the next
 abbrev pub step : ℕ → ℕ
-step k = cond (eqb k 3) 9 8
+step k = cond (isRule k) 9 8
+
+-- ---- lengths
+
+-- L, of what follows it: with n points or times
+abbrev pub lengthOf : ℕ → ℕ → ℕ
+lengthOf k n = by k 22 14 (30 + 9 * n) (26 + 8 * n)
+
+-- all bytes of coverage, and of a transition
+abbrev pub coverageSize : ℕ
+coverageSize = size .width + lengthOf coverageKind 0
+
+abbrev pub transitionSize : ℕ
+transitionSize = size .width + lengthOf transitionKind 0

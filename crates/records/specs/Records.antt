@@ -6,7 +6,7 @@ use lib.ListN.{length}
 use mir.Syntax.{Width, w32, w64}
 use mir.Val.{ofZ}
 use Rattle.wire.specs.Fields.{Field, bytes, laid}
-use Rattle.records.specs.Layout.{Place, number, integer, size, kind, by, coverageStart, coverageEnd, coverageOffset, transitionInstant, transitionOffset, dayFirst, dayLast}
+use Rattle.records.specs.Layout.{Place, number, integer, size, kind, by, coverageStart, coverageEnd, coverageOffset, transitionInstant, transitionOffset, dayFirst, dayLast, coverageKind, transitionKind, ruleKind, eventKind}
 use Rattle.records.specs.Layout.{ruleCode, ruleMask, ruleLabel, ruleEvidence, ruleDerived, eventCode, eventEvidence, tag, nanoseconds, text, count, time, phase, step}
 
 -- coverage, in nanoseconds, and the first offset, in seconds
@@ -57,10 +57,10 @@ pub data Record : Type 0 where
   event : Event → Record
 
 abbrev pub kindOf : Record → ℕ
-kindOf (coverage c) = 1
-kindOf (transition t) = 2
-kindOf (rule r) = 3
-kindOf (event e) = 4
+kindOf (coverage c) = coverageKind
+kindOf (transition t) = transitionKind
+kindOf (rule r) = ruleKind
+kindOf (event e) = eventKind
 
 -- ---- written
 
@@ -75,23 +75,23 @@ publishedFields k u rest = put (tag k) (u .tag) ∷ putSigned w64 (nanoseconds k
 
 abbrev pub pointFields : List Point → List Field
 pointFields [] = []
-pointFields (p ∷ ps) = put (time 3) (p .time) ∷ put (phase 3) (p .phase) ∷ pointFields ps
+pointFields (p ∷ ps) = put (time ruleKind) (p .time) ∷ put (phase ruleKind) (p .phase) ∷ pointFields ps
 
 abbrev pub timeFields : List ℕ → List Field
-timeFields ts = map (put (time 4)) ts
+timeFields ts = map (put (time eventKind)) ts
 
 -- what follows the length
 abbrev pub fieldsOf : Record → List Field
 fieldsOf (coverage c) =
-    put kind 1 ∷ putSigned w64 coverageStart (c .start) ∷ putSigned w64 coverageEnd (c .end) ∷ putSigned w32 coverageOffset (c .offset) ∷ []
-fieldsOf (transition t) = put kind 2 ∷ putSigned w64 transitionInstant (t .at) ∷ putSigned w32 transitionOffset (t .offset) ∷ []
+    put kind coverageKind ∷ putSigned w64 coverageStart (c .start) ∷ putSigned w64 coverageEnd (c .end) ∷ putSigned w32 coverageOffset (c .offset) ∷ []
+fieldsOf (transition t) = put kind transitionKind ∷ putSigned w64 transitionInstant (t .at) ∷ putSigned w32 transitionOffset (t .offset) ∷ []
 fieldsOf (rule r) =
-    put kind 3 ∷ putSigned w32 dayFirst (r .first) ∷ putSigned w32 dayLast (r .last) ∷ put ruleCode (r .code) ∷ put ruleMask (r .mask)
+    put kind ruleKind ∷ putSigned w32 dayFirst (r .first) ∷ putSigned w32 dayLast (r .last) ∷ put ruleCode (r .code) ∷ put ruleMask (r .mask)
     ∷ put ruleLabel (r .label) ∷ put ruleEvidence (r .evidence) ∷ put ruleDerived (r .derived)
-    ∷ publishedFields 3 (r .uncertainty) (put (count 3) (length (r .points)) ∷ pointFields (r .points))
+    ∷ publishedFields ruleKind (r .uncertainty) (put (count ruleKind) (length (r .points)) ∷ pointFields (r .points))
 fieldsOf (event e) =
-    put kind 4 ∷ putSigned w32 dayFirst (e .first) ∷ putSigned w32 dayLast (e .last) ∷ put eventCode (e .code) ∷ put eventEvidence (e .evidence)
-    ∷ publishedFields 4 (e .uncertainty) (put (count 4) (length (e .times)) ∷ timeFields (e .times))
+    put kind eventKind ∷ putSigned w32 dayFirst (e .first) ∷ putSigned w32 dayLast (e .last) ∷ put eventCode (e .code) ∷ put eventEvidence (e .evidence)
+    ∷ publishedFields eventKind (e .uncertainty) (put (count eventKind) (length (e .times)) ∷ timeFields (e .times))
 
 unfoldable pub body : Record → List ℕ
 body r = laid (fieldsOf r)
@@ -112,11 +112,11 @@ publishedAt k s at = record { tag = number (tag k) s at; nanoseconds = integer w
 -- n points, and n times, behind n's field
 unfoldable pub pointsAt : List ℕ → ℕ → ℕ → List Point
 pointsAt s at zero = []
-pointsAt s at (suc n) = record { time = number (time 3) s at; phase = number (phase 3) s at } ∷ pointsAt s (at + step 3) n
+pointsAt s at (suc n) = record { time = number (time ruleKind) s at; phase = number (phase ruleKind) s at } ∷ pointsAt s (at + step ruleKind) n
 
 unfoldable pub timesAt : List ℕ → ℕ → ℕ → List ℕ
 timesAt s at zero = []
-timesAt s at (suc n) = number (time 4) s at ∷ timesAt s (at + step 4) n
+timesAt s at (suc n) = number (time eventKind) s at ∷ timesAt s (at + step eventKind) n
 
 abbrev pub coverageAt : List ℕ → ℕ → Coverage
 coverageAt s at = record { start = integer w64 coverageStart s at; end = integer w64 coverageEnd s at; offset = integer w32 coverageOffset s at }
@@ -134,8 +134,8 @@ ruleAt s at =
       label = number ruleLabel s at;
       evidence = number ruleEvidence s at;
       derived = number ruleDerived s at;
-      uncertainty = publishedAt 3 s at;
-      points = pointsAt s at (number (count 3) s at);
+      uncertainty = publishedAt ruleKind s at;
+      points = pointsAt s at (number (count ruleKind) s at);
     }
 
 abbrev pub eventAt : List ℕ → ℕ → Event
@@ -145,8 +145,8 @@ eventAt s at =
       last = integer w32 dayLast s at;
       code = number eventCode s at;
       evidence = number eventEvidence s at;
-      uncertainty = publishedAt 4 s at;
-      times = timesAt s at (number (count 4) s at);
+      uncertainty = publishedAt eventKind s at;
+      times = timesAt s at (number (count eventKind) s at);
     }
 
 abbrev pub recordAt : List ℕ → ℕ → Record

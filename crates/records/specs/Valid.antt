@@ -9,6 +9,7 @@ use lib.Signed.{leZ}
 use Rattle.records.specs.Limits.{Limits}
 use Rattle.records.specs.Records.{Rule, Event, Record, coverage, transition, rule, event, kindOf, encodeAll}
 use Rattle.records.specs.Book.{spacing, many, most, outside, lateStart, falling, reversed, coversNothing}
+use Rattle.records.specs.Layout.{coverageKind}
 
 -- every element is a byte
 abbrev pub Bytes : List ℕ → Type 0
@@ -48,7 +49,7 @@ AllSound l (r ∷ rs) = Sound l r × AllSound l rs
 -- the first record, if there is one, is of kind 1
 abbrev pub Headed : List Record → Type 0
 Headed [] = Unit {0}
-Headed (r ∷ rs) = kindOf r ≡ 1
+Headed (r ∷ rs) = kindOf r ≡ coverageKind
 
 -- the clock changes' instants, as listed
 abbrev pub instantsOf : List Record → List ℤ

@@ -1,12 +1,14 @@
-// The records of a venue's book: where their fields stand, and which phases are trading.
+// The records of a venue's book: where their fields stand, how many there may be, and which phases are trading.
 
 mod fields;
+mod limits;
 mod phase;
 mod ranges;
 
 pub use fields::COVERAGE;
 pub use fields::COVERAGE_END;
 pub use fields::COVERAGE_OFFSET;
+pub use fields::COVERAGE_SIZE;
 pub use fields::COVERAGE_START;
 pub use fields::DAY_FIRST;
 pub use fields::DAY_LAST;
@@ -15,20 +17,33 @@ pub use fields::EVENT_CODE;
 pub use fields::EVENT_EVIDENCE;
 pub use fields::HEAD;
 pub use fields::KIND;
+pub use fields::NANOSECONDS;
+pub use fields::PHASE;
+pub use fields::POINT_SIZE;
 pub use fields::RULE;
 pub use fields::RULE_CODE;
 pub use fields::RULE_DERIVED;
 pub use fields::RULE_EVIDENCE;
 pub use fields::RULE_LABEL;
 pub use fields::RULE_MASK;
+pub use fields::TEXT;
+pub use fields::TIME_SIZE;
 pub use fields::TRANSITION;
-pub use fields::TRANSITION_BYTES;
 pub use fields::TRANSITION_INSTANT;
 pub use fields::TRANSITION_OFFSET;
+pub use fields::TRANSITION_SIZE;
 pub use fields::count_place;
+pub use fields::is_dated;
+pub use fields::is_rule;
 pub use fields::step_of;
 pub use fields::tag_place;
 pub use fields::time_place;
+pub use limits::MOST_BYTES;
+pub use limits::MOST_EVENTS;
+pub use limits::MOST_POINTS;
+pub use limits::MOST_RULES;
+pub use limits::MOST_TIMES;
+pub use limits::MOST_TRANSITIONS;
 pub use phase::is_trading;
 pub use ranges::DAYS_HIGH;
 pub use ranges::DAYS_LOW;

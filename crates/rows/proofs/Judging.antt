@@ -13,6 +13,7 @@ use Rattle.wire.specs.declared.sign.Placed.{Placed}
 use Rattle.records.specs.Layout.{number, kind}
 use Rattle.records.proofs.Frames.{size-by}
 use Rattle.answer.specs.Forms
+use Rattle.answer.specs.Forms.{phaseKind, phaseLength, gapKind, gapLength, eventKind, eventLength, markKind, markLength, phaseSize, gapSize}
 use Rattle.rows.specs.Rows.{fromAt, toAt, countAt, framed, goodPhase, goodGap, goodSegment, goodEvent, goodMark}
 use Rattle.rows.specs.Telling.{segmentOf, standsAt}
 use Rattle.rows.specs.declared.Shows.the-variants.{Phase, Unknown}
@@ -40,11 +41,11 @@ module _ (s : List ℕ) (at : ℕ) where
       → eqb (z + 65536 * y) (l + 65536 * k) ≡ framed k l s at
   framed-at-once k l z y i h a b u v = at-once z y l k u v ∙ framed-by k l z y i h a b
 
-  pub phase-unframed : framed 16 103 s at ≡ false → false ≡ goodPhase s at
+  pub phase-unframed : framed phaseKind phaseLength s at ≡ false → false ≡ goodPhase s at
   unfolding goodPhase
   phase-unframed e = simp e
 
-  pub phase-by : framed 16 103 s at ≡ true → (p c a b w x y : ℕ)
+  pub phase-by : framed phaseKind phaseLength s at ≡ true → (p c a b w x y : ℕ)
       → p ≡ number Forms.phasePlace s at → c ≡ number Forms.codePlace s at
       → a ≡ number (Forms.tagBehind Forms.fromPlace) s at → b ≡ number (Forms.tagBehind Forms.toPlace) s at
       → w ≡ number (Forms.tagBehind Forms.wholeBefore) s at
@@ -53,20 +54,20 @@ module _ (s : List ℕ) (at : ℕ) where
   unfolding goodPhase
   phase-by e p c a b w x y i j k l m n o = rw (e, i, j, k, l, m, n, o)
 
-  pub gap-unframed : framed 17 35 s at ≡ false → false ≡ goodGap s at
+  pub gap-unframed : framed gapKind gapLength s at ≡ false → false ≡ goodGap s at
   unfolding goodGap
   gap-unframed e = simp e
 
-  pub gap-by : framed 17 35 s at ≡ true → (p x y : ℕ) → p ≡ number (Forms.presentBehind Forms.end) s at → x ≡ fromAt s at → y ≡ toAt s at
+  pub gap-by : framed gapKind gapLength s at ≡ true → (p x y : ℕ) → p ≡ number (Forms.presentBehind Forms.end) s at → x ≡ fromAt s at → y ≡ toAt s at
       → (leb p 1 && ltb x y) ≡ goodGap s at
   unfolding goodGap
   gap-by e p x y i j k = rw (e, i, j, k)
 
-  pub event-unframed : framed 18 33 s at ≡ false → false ≡ goodEvent s at
+  pub event-unframed : framed eventKind eventLength s at ≡ false → false ≡ goodEvent s at
   unfolding goodEvent
   event-unframed e = simp e
 
-  pub event-by : framed 18 33 s at ≡ true → (t : ℕ) → t ≡ number (Forms.tagBehind Forms.eventAt) s at → leb t 5 ≡ goodEvent s at
+  pub event-by : framed eventKind eventLength s at ≡ true → (t : ℕ) → t ≡ number (Forms.tagBehind Forms.eventAt) s at → leb t 5 ≡ goodEvent s at
   unfolding goodEvent
   event-by e t i = rw (e, i)
 
@@ -74,7 +75,7 @@ module _ (s : List ℕ) (at : ℕ) where
   pub segment-by : {a b x : Bool} → a ≡ goodPhase s at → b ≡ goodGap s at → (a || b) ≡ x → goodSegment s at ≡ x
   segment-by e f g = sym (ap₂ _||_ e f) ∙ g
 
-  pub mark-by : (marks : Bool) {a x : Bool} → a ≡ framed 21 4 s at → (marks && a) ≡ x → (marks && goodMark s at) ≡ x
+  pub mark-by : (marks : Bool) {a x : Bool} → a ≡ framed markKind markLength s at → (marks && a) ≡ x → (marks && goodMark s at) ≡ x
   mark-by marks e g = sym (ap (λ (b : Bool). marks && b) e) ∙ g
 
 -- ---- what stands at a place, by what is looked at
@@ -116,15 +117,15 @@ module _ (marks : Bool) (s : List ℕ) (at least n : ℕ) where
 -- ---- a segment, made of what was read
 
 module _ (s : List ℕ) (at : ℕ) (p q : Placed) (e : p .0 ≡ fromAt s at) (f : q .0 ≡ toAt s at) where
-  pub phase-made : number kind s at ≡ 16 → (a b n : ℕ) → a ≡ number Forms.phasePlace s at → b ≡ number Forms.evidencePlace s at → n ≡ countAt s at
-      → record { from = p; to = q; shows = Phase a b; events = n; behind = at + 105 } ≡ segmentOf s at
+  pub phase-made : number kind s at ≡ phaseKind → (a b n : ℕ) → a ≡ number Forms.phasePlace s at → b ≡ number Forms.evidencePlace s at → n ≡ countAt s at
+      → record { from = p; to = q; shows = Phase a b; events = n; behind = at + phaseSize } ≡ segmentOf s at
   phase-made k a b n i j l =
       let x : p ≡ record { 0 = fromAt s at } = ap (λ (z : ℕ). record { 0 = z }) e in
       let y : q ≡ record { 0 = toAt s at } = ap (λ (z : ℕ). record { 0 = z }) f in
-      rw (x, y, i, j, l, eq-eqb (number kind s at) 16 k)
+      rw (x, y, i, j, l, eq-eqb (number kind s at) phaseKind k)
 
-  pub gap-made : (number kind s at ≡ 16 → ⊥) → record { from = p; to = q; shows = Unknown; events = 0; behind = at + 37 } ≡ segmentOf s at
+  pub gap-made : (number kind s at ≡ phaseKind → ⊥) → record { from = p; to = q; shows = Unknown; events = 0; behind = at + gapSize } ≡ segmentOf s at
   gap-made k =
       let x : p ≡ record { 0 = fromAt s at } = ap (λ (z : ℕ). record { 0 = z }) e in
       let y : q ≡ record { 0 = toAt s at } = ap (λ (z : ℕ). record { 0 = z }) f in
-      rw (x, y, ne-eqb (number kind s at) 16 k)
+      rw (x, y, ne-eqb (number kind s at) phaseKind k)

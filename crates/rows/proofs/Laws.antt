@@ -9,6 +9,7 @@ use lib.Dec.{eqb}
 use lib.ListN.{length}
 use Rattle.wire.proofs.Signs.{and-true}
 use Rattle.spans.specs.Spans.{Within}
+use Rattle.answer.specs.Forms.{eventSize}
 use Rattle.rows.specs.Rows.{Row, fromAt, toAt, behindPhase, behindGap, behindMark, enough, left, eventsFrom, segments, segmentsAt, rowsFrom, rows}
 use Rattle.rows.specs.Rows.{goodPhase, goodEvent, goodSegment, goodMark, goodEvents, goodFrom, goodAt, goodRow, goodRows}
 use Rattle.rows.specs.Telling.{segmentOf, spanOf, endOf, goodOn, markAt, rowsAt}
@@ -214,17 +215,17 @@ row-unmarked s e = unmarked s (enough s) 0 0 e
 pub events-counted : (s : List ℕ) (at n : ℕ) → length (eventsFrom s at n) ≡ n
 unfolding eventsFrom
 events-counted s at zero = refl
-events-counted s at (suc n) = ap suc (events-counted s (at + 35) n)
+events-counted s at (suc n) = ap suc (events-counted s (at + eventSize) n)
 
 pub each-event : (s : List ℕ) (at n : ℕ) → goodEvents s at n ≡ true → (i : ℕ) → i < n
-    → (goodEvent s (at + 35 * i) ≡ true) × (at + 35 * i + 35 ≤ length s)
+    → (goodEvent s (at + eventSize * i) ≡ true) × (at + eventSize * i + eventSize ≤ length s)
 unfolding goodEvents
 each-event s at zero e i h = absurd (omega arith)
 each-event s at (suc n) e zero h =
-    let a = and-true (goodEvent s at) (goodEvents s (at + 35) n) e in
-    let z : at + 35 * 0 ≡ at = omega arith in
+    let a = and-true (goodEvent s at) (goodEvents s (at + eventSize) n) e in
+    let z : at + eventSize * 0 ≡ at = omega arith in
     rw z (a .0, event-holds s at (a .0))
 each-event s at (suc n) e (suc i) h =
-    let a = and-true (goodEvent s at) (goodEvents s (at + 35) n) e in
-    let z : at + 35 * suc i ≡ at + 35 + 35 * i = omega arith in
-    rw z (each-event s (at + 35) n (a .1) i (omega arith))
+    let a = and-true (goodEvent s at) (goodEvents s (at + eventSize) n) e in
+    let z : at + eventSize * suc i ≡ at + eventSize + eventSize * i = omega arith in
+    rw z (each-event s (at + eventSize) n (a .1) i (omega arith))

@@ -2,7 +2,7 @@
 use mathlib.Core.Path.{_≡_, refl, sym, ap, _∙_}
 use mathlib.Core.Bool.{Bool, true, false, cond, _&&_, _||_}
 use mathlib.Core.List.{List, [], _∷_}
-use Prim.Native.Nat.{ℕ, zero, suc, _+_, _-_, _*_, _≤_, _<_, min}
+use Prim.Native.Nat.{ℕ, zero, suc, _+_, _*_, _≤_, _<_, min}
 use native.Mathlib.Omega.{arith}
 use borrow.Author.Tests.{le-leb, lt-leb, leb-false, eq-eqb, ne-eqb}
 use lib.Dec.{leb, eqb}
@@ -10,6 +10,7 @@ use lib.ListN.{length}
 use Rattle.records.specs.Layout.{number, kind}
 use Rattle.spans.specs.Spans.{Span}
 use Rattle.answer.specs.Forms
+use Rattle.answer.specs.Forms.{phaseKind, gapKind, markKind, phaseSize, gapSize, eventSize}
 use Rattle.rows.specs.Rows.{Seen, Row, fromAt, toAt, countAt, behindPhase, behindGap, behindMark, enough, left, phaseSeen, gapSeen}
 use Rattle.rows.specs.Rows.{goodPhase, goodGap, goodSegment, goodMark, goodEvents, goodFrom, goodAt, eventsFrom, segmentsFrom, segmentsAt, markFrom, rowsFrom}
 use Rattle.rows.specs.Telling.{phaseSegment, gapSegment, segmentOf, spanOf, endOf, goodOn, markAt, rowsAt}
@@ -79,7 +80,7 @@ module _ (s : List ℕ) where
   unfolding markFrom
   mark-after zero at = omega arith
   mark-after (suc n) at =
-      go (leb (length s) at) (eqb (number kind s at) 16) (eqb (number kind s at) 17) (mark-after n (behindPhase s at)) (mark-after n (behindGap at))
+      go (leb (length s) at) (eqb (number kind s at) phaseKind) (eqb (number kind s at) gapKind) (mark-after n (behindPhase s at)) (mark-after n (behindGap at))
     where
       go : (a b c : Bool) → min (behindPhase s at) (length s) ≤ markFrom n s (behindPhase s at)
           → min (behindGap at) (length s) ≤ markFrom n s (behindGap at)
@@ -117,7 +118,7 @@ module _ (s : List ℕ) where
       pub rows-end : rowsAt s at ≡ []
       rows-end = rows-past (left s at) at (omega arith)
 
-    module _ (h : at < length s) (i : number kind s at ≡ 16) where
+    module _ (h : at < length s) (i : number kind s at ≡ phaseKind) where
       pub segments-phase : segmentsAt s at ≡ phaseSeen s at ∷ segmentsAt s (behindPhase s at)
       unfolding segmentsFrom
       segments-phase =
@@ -132,7 +133,7 @@ module _ (s : List ℕ) where
           mark-looks (left s at) (enough s) at (omega arith) (omega arith)
           ∙ simp (lt-leb (length s) at h, i) (mark-looks (length s) (left s b) b (omega arith) (omega arith))
 
-    module _ (h : at < length s) (i : number kind s at ≡ 17) where
+    module _ (h : at < length s) (i : number kind s at ≡ gapKind) where
       pub segments-gap : segmentsAt s at ≡ gapSeen s at ∷ segmentsAt s (behindGap at)
       unfolding segmentsFrom
       segments-gap =
@@ -147,7 +148,7 @@ module _ (s : List ℕ) where
           mark-looks (left s at) (enough s) at (omega arith) (omega arith)
           ∙ simp (lt-leb (length s) at h, i) (mark-looks (length s) (left s b) b (omega arith) (omega arith))
 
-    module _ (h : at < length s) (i : number kind s at ≡ 21) where
+    module _ (h : at < length s) (i : number kind s at ≡ markKind) where
       pub segments-mark : segmentsAt s at ≡ []
       unfolding segmentsFrom
       segments-mark = segments-looks (left s at) (enough s) at (omega arith) (omega arith) ∙ simp (lt-leb (length s) at h, i)
@@ -193,7 +194,7 @@ module _ (s : List ℕ) (at : ℕ) where
         next = mark-phase s at h (f .kind);
         good = λ marks least l.
             good-look s marks at least (omega arith) ∙ phase-on marks s at least h p l (length s)
-            ∙ ap (λ (b : Bool). goodEvents s (at + 105) (countAt s at) && b) (good-left s marks at least (behindPhase s at) (toAt s at) (omega arith));
+            ∙ ap (λ (b : Bool). goodEvents s (at + phaseSize) (countAt s at) && b) (good-left s marks at least (behindPhase s at) (toAt s at) (omega arith));
       }
 
   holds-gap : goodPhase s at ≡ false → goodGap s at ≡ true → Holds (gapSegment s at)
@@ -201,7 +202,7 @@ module _ (s : List ℕ) (at : ℕ) where
   holds-gap p g =
       let f = gap-holds s at g in
       let h : at < length s = omega (arith, f .whole) in
-      let z : behindGap at + 35 * 0 ≡ behindGap at = omega arith in
+      let z : behindGap at + eventSize * 0 ≡ behindGap at = omega arith in
       record {
         after = omega arith;
         inside = f .whole;
@@ -214,10 +215,10 @@ module _ (s : List ℕ) (at : ℕ) where
       }
 
   -- the fields that both kinds have lie in the bytes
-  pub segment-room : goodSegment s at ≡ true → at + 37 ≤ length s
+  pub segment-room : goodSegment s at ≡ true → at + gapSize ≤ length s
   segment-room e = go (goodPhase s at) refl e
     where
-      go : (b : Bool) → goodPhase s at ≡ b → (b || goodGap s at) ≡ true → at + 37 ≤ length s
+      go : (b : Bool) → goodPhase s at ≡ b → (b || goodGap s at) ≡ true → at + gapSize ≤ length s
       go true i e = omega (arith, phase-holds s at i .whole)
       go false i e = gap-holds s at e .whole
 
@@ -241,10 +242,10 @@ module _ (s : List ℕ) (at : ℕ) where
       on true i = absurd (omega (arith, gap-holds s at i .kind, mark-holds s at m .1))
       on false i = refl
 
-  pub phase-room : goodSegment s at ≡ true → number kind s at ≡ 16 → at + 105 ≤ length s
+  pub phase-room : goodSegment s at ≡ true → number kind s at ≡ phaseKind → at + phaseSize ≤ length s
   phase-room e k = go (goodPhase s at) refl e
     where
-      go : (b : Bool) → goodPhase s at ≡ b → (b || goodGap s at) ≡ true → at + 105 ≤ length s
+      go : (b : Bool) → goodPhase s at ≡ b → (b || goodGap s at) ≡ true → at + phaseSize ≤ length s
       go true i e = phase-holds s at i .whole
       go false i e = absurd (omega (arith, k, gap-holds s at e .kind))
 
@@ -252,5 +253,5 @@ module _ (s : List ℕ) (at : ℕ) where
   holds e = go (goodPhase s at) refl e
     where
       go : (b : Bool) → goodPhase s at ≡ b → (b || goodGap s at) ≡ true → Holds (segmentOf s at)
-      go true i e = rw (eq-eqb (number kind s at) 16 (phase-holds s at i .kind)) (holds-phase i)
-      go false i e = rw (ne-eqb (number kind s at) 16 (λ z. omega (arith, gap-holds s at e .kind))) (holds-gap i e)
+      go true i e = rw (eq-eqb (number kind s at) phaseKind (phase-holds s at i .kind)) (holds-phase i)
+      go false i e = rw (ne-eqb (number kind s at) phaseKind (λ z. omega (arith, gap-holds s at e .kind))) (holds-gap i e)

@@ -8,6 +8,7 @@ use borrow.Author.Tests.{ltb-true, ltb-false, eqb-true, eqb-false}
 use lib.Dec.{ltb, eqb}
 use lib.ListN.{length}
 use Rattle.wire.proofs.Signs.{and-true}
+use Rattle.answer.specs.Forms.{eventSize}
 use Rattle.rows.specs.Rows.{fromAt, enough, goodPhase, goodGap, goodSegment, goodEvent, goodMark, goodEvents, goodFrom, goodAt}
 use Rattle.rows.specs.Telling.{segmentOf, goodOn, standsAt}
 use Rattle.rows.specs.declared.Segment.{Segment}
@@ -45,9 +46,9 @@ module _ (marks : Bool) (s : List ℕ) (at least n : ℕ) where
   pub record Happens : Type 0 where
     pub some : 0 < n
     pub event : goodEvent s at ≡ true
-    pub inside : at + 35 ≤ length s
-    pub on : goodOn marks s at least n ≡ goodOn marks s (at + 35) least (n - 1)
-    pub same : at + 35 * n ≡ at + 35 + 35 * (n - 1)
+    pub inside : at + eventSize ≤ length s
+    pub on : goodOn marks s at least n ≡ goodOn marks s (at + eventSize) least (n - 1)
+    pub same : at + eventSize * n ≡ at + eventSize + eventSize * (n - 1)
 
   abbrev pub Tells : Stands → Type 0
   Tells Stands.Bad = goodOn marks s at least n ≡ false
@@ -59,13 +60,13 @@ module _ (marks : Bool) (s : List ℕ) (at least n : ℕ) where
   -- where no event is to come, all depends on what follows
   fresh : (b : ℕ) → goodOn marks s b 0 0 ≡ goodAt marks s b 0
   unfolding goodEvents
-  fresh b = let f : b + 35 * 0 ≡ b = omega arith in rw f
+  fresh b = let f : b + eventSize * 0 ≡ b = omega arith in rw f
 
   module _ (h : at ≤ length s) where
     -- nothing is to come, so all depends on what follows
     none-waits : n ≤ 0 → goodOn marks s at least n ≡ goodAt marks s at least
     unfolding goodEvents
-    none-waits z = let e : n ≡ 0 = omega arith in let f : at + 35 * 0 ≡ at = omega arith in rw (e, f)
+    none-waits z = let e : n ≡ 0 = omega arith in let f : at + eventSize * 0 ≡ at = omega arith in rw (e, f)
 
     looked : n ≤ 0 → goodOn marks s at least n ≡ goodFrom marks (enough s) s at least
     looked z = none-waits z ∙ good-look s marks at least h
@@ -78,15 +79,15 @@ module _ (marks : Bool) (s : List ℕ) (at least n : ℕ) where
         go zero l = absurd (omega arith)
         go (suc m) l = simp e
 
-    event-on : 0 < n → goodEvent s at ≡ true → goodOn marks s at least n ≡ goodOn marks s (at + 35) least (n - 1)
+    event-on : 0 < n → goodEvent s at ≡ true → goodOn marks s at least n ≡ goodOn marks s (at + eventSize) least (n - 1)
     unfolding goodEvents
     event-on l e = go n l
       where
-        go : (n : ℕ) → 0 < n → goodOn marks s at least n ≡ goodOn marks s (at + 35) least (n - 1)
+        go : (n : ℕ) → 0 < n → goodOn marks s at least n ≡ goodOn marks s (at + eventSize) least (n - 1)
         go zero l = absurd (omega arith)
         go (suc m) l =
             let z : suc m - 1 ≡ m = omega arith in
-            let w : at + 35 * suc m ≡ at + 35 + 35 * m = omega arith in
+            let w : at + eventSize * suc m ≡ at + eventSize + eventSize * m = omega arith in
             rw (z, w) (simp e)
 
     -- a segment that starts too early
@@ -153,5 +154,5 @@ module _ {marks : Bool} {s : List ℕ} {all : Bool} {at least n : ℕ} (o : Goin
   pub segment-after : Sees marks s at least n → {g : Segment} → g ≡ segmentOf s at → length s - g .behind < length s - at
   segment-after t e = let h = holds s at (t .segment) in rw e (omega (arith, h .after, h .inside))
 
-  pub event-going : Happens marks s at least n → Going marks s all (at + 35) least (n - 1)
+  pub event-going : Happens marks s at least n → Going marks s all (at + eventSize) least (n - 1)
   event-going t = record { same = o .same ∙ t .on; inside = t .inside }

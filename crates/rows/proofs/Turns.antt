@@ -10,6 +10,7 @@ use lib.ListN.{length}
 use Rattle.wire.proofs.Signs.{and-true}
 use Rattle.records.specs.Layout.{number, size, kind}
 use Rattle.answer.specs.Forms
+use Rattle.answer.specs.Forms.{phaseKind, phaseLength, gapKind, gapLength, eventKind, eventLength, markKind, markLength, phaseSize, gapSize, eventSize}
 use Rattle.rows.specs.Rows.{fromAt, toAt, countAt, behindPhase, behindGap, behindMark, framed, tagged, notEmpty}
 use Rattle.rows.specs.Rows.{goodPhase, goodGap, goodEvent, goodMark, goodEvents, goodFrom}
 
@@ -26,8 +27,8 @@ module _ (s : List ℕ) (at : ℕ) where
       (leb-true (at + 2 + l) (length s) (b .0), eqb-true (number kind s at) k (a .1))
 
   pub record PhaseHolds : Type 0 where
-    pub whole : at + 105 ≤ length s
-    pub kind : number kind s at ≡ 16
+    pub whole : at + phaseSize ≤ length s
+    pub kind : number kind s at ≡ phaseKind
     pub listed : number Forms.phasePlace s at ≤ 7
     pub forward : fromAt s at < toAt s at
 
@@ -35,42 +36,42 @@ module _ (s : List ℕ) (at : ℕ) where
   unfolding goodPhase
   phase-holds e =
       let p = number Forms.phasePlace s at in
-      let a = and-true ((framed 16 103 s at && leb p 7) && leb (number Forms.codePlace s at) 3) _ e in
-      let b = and-true (framed 16 103 s at && leb p 7) (leb (number Forms.codePlace s at) 3) (a .0) in
-      let c = and-true (framed 16 103 s at) (leb p 7) (b .0) in
-      let f = framed-holds 16 103 (c .0) in
+      let a = and-true ((framed phaseKind phaseLength s at && leb p 7) && leb (number Forms.codePlace s at) 3) _ e in
+      let b = and-true (framed phaseKind phaseLength s at && leb p 7) (leb (number Forms.codePlace s at) 3) (a .0) in
+      let c = and-true (framed phaseKind phaseLength s at) (leb p 7) (b .0) in
+      let f = framed-holds phaseKind phaseLength (c .0) in
       let d = and-true ((tagged Forms.fromPlace s at && tagged Forms.toPlace s at) && tagged Forms.wholeBefore s at) (notEmpty s at) (a .1) in
       record { whole = omega (arith, f .0); kind = f .1; listed = leb-true p 7 (c .1); forward = ltb-true (fromAt s at) (toAt s at) (d .1) }
 
   pub record GapHolds : Type 0 where
-    pub whole : at + 37 ≤ length s
-    pub kind : number kind s at ≡ 17
+    pub whole : at + gapSize ≤ length s
+    pub kind : number kind s at ≡ gapKind
     pub forward : fromAt s at < toAt s at
 
   pub gap-holds : goodGap s at ≡ true → GapHolds
   unfolding goodGap
   gap-holds e =
       let p = leb (number (Forms.presentBehind Forms.end) s at) 1 in
-      let a = and-true (framed 17 35 s at && p) (notEmpty s at) e in
-      let b = and-true (framed 17 35 s at) p (a .0) in
-      let f = framed-holds 17 35 (b .0) in
+      let a = and-true (framed gapKind gapLength s at && p) (notEmpty s at) e in
+      let b = and-true (framed gapKind gapLength s at) p (a .0) in
+      let f = framed-holds gapKind gapLength (b .0) in
       record { whole = omega (arith, f .0); kind = f .1; forward = ltb-true (fromAt s at) (toAt s at) (a .1) }
 
-  pub mark-holds : goodMark s at ≡ true → (at + 6 ≤ length s) × (number kind s at ≡ 21)
-  mark-holds e = let f = framed-holds 21 4 e in (omega (arith, f .0), f .1)
+  pub mark-holds : goodMark s at ≡ true → (at + 6 ≤ length s) × (number kind s at ≡ markKind)
+  mark-holds e = let f = framed-holds markKind markLength e in (omega (arith, f .0), f .1)
 
-  pub event-holds : goodEvent s at ≡ true → at + 35 ≤ length s
+  pub event-holds : goodEvent s at ≡ true → at + eventSize ≤ length s
   unfolding goodEvent
-  event-holds e = omega (arith, framed-holds 18 33 (and-true (framed 18 33 s at) (tagged Forms.eventAt s at) e .0) .0)
+  event-holds e = omega (arith, framed-holds eventKind eventLength (and-true (framed eventKind eventLength s at) (tagged Forms.eventAt s at) e .0) .0)
 
 -- events that stand one after the other lie in the bytes
-pub events-room : (s : List ℕ) (at n : ℕ) → at ≤ length s → goodEvents s at n ≡ true → at + 35 * n ≤ length s
+pub events-room : (s : List ℕ) (at n : ℕ) → at ≤ length s → goodEvents s at n ≡ true → at + eventSize * n ≤ length s
 unfolding goodEvents
 events-room s at zero h e = omega arith
 events-room s at (suc n) h e =
-    let a = and-true (goodEvent s at) (goodEvents s (at + 35) n) e in
+    let a = and-true (goodEvent s at) (goodEvents s (at + eventSize) n) e in
     let r = event-holds s at (a .0) in
-    let on = events-room s (at + 35) n r (a .1) in
+    let on = events-room s (at + eventSize) n r (a .1) in
     omega arith
 
 -- ---- one turn
@@ -78,7 +79,7 @@ events-room s at (suc n) h e =
 -- what may stand at a place of good bytes
 pub data Goes (marks : Bool) (n : ℕ) (s : List ℕ) (at least : ℕ) : Type 0 where
   ends : at ≡ length s → Goes marks n s at least
-  phases : goodPhase s at ≡ true → least ≤ fromAt s at → goodEvents s (at + 105) (countAt s at) ≡ true
+  phases : goodPhase s at ≡ true → least ≤ fromAt s at → goodEvents s (at + phaseSize) (countAt s at) ≡ true
       → goodFrom marks n s (behindPhase s at) (toAt s at) ≡ true → Goes marks n s at least
   gaps : goodGap s at ≡ true → least ≤ fromAt s at → goodFrom marks n s (behindGap at) (toAt s at) ≡ true → Goes marks n s at least
   anew : marks ≡ true → goodMark s at ≡ true → goodFrom marks n s (behindMark at) 0 ≡ true → Goes marks n s at least
@@ -94,14 +95,14 @@ module _ (marks : Bool) (s : List ℕ) (at least : ℕ) where
     where
       go : (a b c d : Bool) → eqb at (length s) ≡ a → goodPhase s at ≡ b → goodGap s at ≡ c → (marks && goodMark s at) ≡ d
           → cond a true
-          (cond b ((leb least (fromAt s at) && goodEvents s (at + 105) (countAt s at)) && goodFrom marks n s (behindPhase s at) (toAt s at))
+          (cond b ((leb least (fromAt s at) && goodEvents s (at + phaseSize) (countAt s at)) && goodFrom marks n s (behindPhase s at) (toAt s at))
           (cond c (leb least (fromAt s at) && goodFrom marks n s (behindGap at) (toAt s at)) (cond d (goodFrom marks n s (behindMark at) 0) false)))
           ≡ true
           → Goes marks n s at least
       go true b c d i j k l e = ends (eqb-true at (length s) i)
       go false true c d i j k l e =
-          let x = and-true (leb least (fromAt s at) && goodEvents s (at + 105) (countAt s at)) _ e in
-          let y = and-true (leb least (fromAt s at)) (goodEvents s (at + 105) (countAt s at)) (x .0) in
+          let x = and-true (leb least (fromAt s at) && goodEvents s (at + phaseSize) (countAt s at)) _ e in
+          let y = and-true (leb least (fromAt s at)) (goodEvents s (at + phaseSize) (countAt s at)) (x .0) in
           phases j (leb-true least (fromAt s at) (y .0)) (y .1) (x .1)
       go false false true d i j k l e =
           let x = and-true (leb least (fromAt s at)) (goodFrom marks n s (behindGap at) (toAt s at)) e in
@@ -133,7 +134,7 @@ module _ (marks : Bool) (s : List ℕ) (at least : ℕ) where
       phase-early l n = simp (inner, p, lt-leb least (fromAt s at) l)
 
       pub phase-on : least ≤ fromAt s at
-          → (n : ℕ) → goodFrom marks (suc n) s at least ≡ (goodEvents s (at + 105) (countAt s at) && goodFrom marks n s (behindPhase s at) (toAt s at))
+          → (n : ℕ) → goodFrom marks (suc n) s at least ≡ (goodEvents s (at + phaseSize) (countAt s at) && goodFrom marks n s (behindPhase s at) (toAt s at))
       unfolding goodFrom
       phase-on l n = simp (inner, p, le-leb least (fromAt s at) l)
 

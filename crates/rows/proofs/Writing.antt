@@ -17,7 +17,7 @@ use Rattle.records.specs.Layout.{Place, number, size, kind}
 use Rattle.records.proofs.Laid.{Says}
 use Rattle.spans.specs.Spans
 use Rattle.answer.specs.Forms
-use Rattle.answer.specs.Forms.{Form, phase, unknown, event, point, mark, day, tally, lengthOf, allFields, coverFields, encode, encodeAll}
+use Rattle.answer.specs.Forms.{Form, phase, unknown, event, point, mark, day, tally, lengthOf, allFields, coverFields, encode, encodeAll, phaseKind, phaseLength, gapKind, gapLength, eventKind, eventLength, phaseSize, gapSize, eventSize}
 use Rattle.answer.specs.Fitting.{Fitting}
 use Rattle.answer.proofs.Readback.{encode-length, reads-back, fitting-narrow, fitting-sized}
 use Rattle.rows.specs.Rows.{Event, placedAt, fromAt, toAt, countAt, framed, enough, eventOf, eventsFrom, segmentsAt, segments}
@@ -54,7 +54,7 @@ module _ (s : List ℕ) (at : ℕ) where
     evidence : number Forms.evidencePlace s at ≡ p .evidence
     count : countAt s at ≡ p .events
 
-  phase-is : (p : Forms.Phase) (least : ℕ) → GoodPhase least p → at + 105 ≤ length s → Says (allFields (phase p)) s at 0 → PhaseIs p
+  phase-is : (p : Forms.Phase) (least : ℕ) → GoodPhase least p → at + phaseSize ≤ length s → Says (allFields (phase p)) s at 0 → PhaseIs p
   unfolding goodPhase
   phase-is p least g h (z, (k, (a, (b, (c, (d, (l, (e, (r, (i, u)))))))))) =
       let from = placed-is Forms.start (p .start) (g .fits .start) a in
@@ -66,7 +66,7 @@ module _ (s : List ℕ) (at : ℕ) where
       let w = small (Forms.tagBehind Forms.wholeBefore) (p .whole .tag) 5 (x .0) (g .whole) in
       let forward : fromAt s at < toAt s at = rw (from, to) (g .forward) in
       record {
-        good = both (both (both (framed-is 16 103 h z k) (small Forms.phasePlace (p .phase) 7 c (g .phase))) (small Forms.codePlace (p .code) 3 d (g .code)))
+        good = both (both (both (framed-is phaseKind phaseLength h z k) (small Forms.phasePlace (p .phase) 7 c (g .phase))) (small Forms.codePlace (p .code) 3 d (g .code)))
             (both (both (both f t) w) (lt-ltb (fromAt s at) (toAt s at) forward));
         from = from;
         to = to;
@@ -84,24 +84,24 @@ module _ (s : List ℕ) (at : ℕ) where
   present-is none u = small (Forms.presentBehind Forms.end) 0 1 (u .0) (omega arith)
   present-is (some c) u = small (Forms.presentBehind Forms.end) 1 1 (u .0) (omega arith)
 
-  gap-is : (g : Forms.Gap) (least : ℕ) → GoodGap least g → at + 37 ≤ length s → Says (allFields (unknown g)) s at 0 → GapIs g
+  gap-is : (g : Forms.Gap) (least : ℕ) → GoodGap least g → at + gapSize ≤ length s → Says (allFields (unknown g)) s at 0 → GapIs g
   unfolding goodGap
   gap-is g least o h (z, (k, (a, (b, u)))) =
       let from = placed-is Forms.start (g .start) (o .fits .start) a in
       let to = placed-is Forms.end (g .end) (o .fits .end) b in
       let forward : fromAt s at < toAt s at = rw (from, to) (o .forward) in
       record {
-        good = both (both (framed-is 17 35 h z k) (present-is (g .coverage) u)) (lt-ltb (fromAt s at) (toAt s at) forward);
+        good = both (both (framed-is gapKind gapLength h z k) (present-is (g .coverage) u)) (lt-ltb (fromAt s at) (toAt s at) forward);
         from = from;
         to = to;
       }
 
-  event-is : (e : Forms.Event) → GoodEvent e → at + 35 ≤ length s → Says (allFields (event e)) s at 0
+  event-is : (e : Forms.Event) → GoodEvent e → at + eventSize ≤ length s → Says (allFields (event e)) s at 0
       → (goodEvent s at ≡ true) × (eventOf s at ≡ eventSaid e)
   unfolding goodEvent
   event-is e g h (z, (k, (c, (a, u)))) =
       let i = placed-is Forms.eventAt (e .at) (g .fits .at) a in (
-        both (framed-is 18 33 h z k) (small (Forms.tagBehind Forms.eventAt) (e .uncertainty .tag) 5 (u .0) (g .tag)),
+        both (framed-is eventKind eventLength h z k) (small (Forms.tagBehind Forms.eventAt) (e .uncertainty .tag) 5 (u .0) (g .tag)),
         ap₂ (λ (x y : ℕ). record { at = x; code = y }) i c,
       )
 
@@ -133,7 +133,7 @@ record Back (s : List ℕ) (at k q n least : ℕ) (fs : List Form) : Type 0 wher
 
 module _ (s : List ℕ) where
   -- a record of another kind is no phase
-  not-phase : (at : ℕ) → number kind s at ≡ 17 → goodPhase s at ≡ false
+  not-phase : (at : ℕ) → number kind s at ≡ gapKind → goodPhase s at ≡ false
   not-phase at e = go (goodPhase s at) refl
     where
       go : (b : Bool) → goodPhase s at ≡ b → b ≡ false
@@ -147,15 +147,15 @@ module _ (s : List ℕ) where
       let i : q ≡ length s = omega arith in
       record { events = refl; happened = refl; good = at-end false s q least n i; seen = segments-end s q i }
 
-  phase-back : (p : Forms.Phase) (at n least : ℕ) (fs : List Form) → GoodPhase least p → at + 105 ≤ length s → Says (allFields (phase p)) s at 0
-      → Back s (at + 105) (p .events) (at + 105 + 35 * p .events) n (instant (p .end)) fs → Back s at 0 at (suc n) least (phase p ∷ fs)
+  phase-back : (p : Forms.Phase) (at n least : ℕ) (fs : List Form) → GoodPhase least p → at + phaseSize ≤ length s → Says (allFields (phase p)) s at 0
+      → Back s (at + phaseSize) (p .events) (at + phaseSize + eventSize * p .events) n (instant (p .end)) fs → Back s at 0 at (suc n) least (phase p ∷ fs)
   unfolding goodEvents eventsFrom eventsOf seenOf
   phase-back p at n least fs g h y on =
       let i = phase-is s at p least g h y in
       let t = phase-holds s at (i .good) in
       let l : at < length s = omega arith in
       let o : least ≤ fromAt s at = rw (i .from) (g .order) in
-      let v : goodEvents s (at + 105) (countAt s at) ≡ true = rw (i .count) (on .events) in
+      let v : goodEvents s (at + phaseSize) (countAt s at) ≡ true = rw (i .count) (on .events) in
       record {
         events = refl;
         happened = refl;
@@ -163,8 +163,8 @@ module _ (s : List ℕ) where
         seen = segments-phase s at l (t .kind) ∙ rw (i .from, i .to, i .phase, i .evidence, i .count, on .happened, on .seen);
       }
 
-  gap-back : (g : Forms.Gap) (at n least : ℕ) (fs : List Form) → GoodGap least g → at + 37 ≤ length s → Says (allFields (unknown g)) s at 0
-      → Back s (at + 37) 0 (at + 37) n (instant (g .end)) fs → Back s at 0 at (suc n) least (unknown g ∷ fs)
+  gap-back : (g : Forms.Gap) (at n least : ℕ) (fs : List Form) → GoodGap least g → at + gapSize ≤ length s → Says (allFields (unknown g)) s at 0
+      → Back s (at + gapSize) 0 (at + gapSize) n (instant (g .end)) fs → Back s at 0 at (suc n) least (unknown g ∷ fs)
   unfolding goodEvents eventsFrom eventsOf seenOf
   gap-back g at n least fs o h y on =
       let i = gap-is s at g least o h y in
@@ -178,14 +178,14 @@ module _ (s : List ℕ) where
         seen = segments-gap s at l (t .kind) ∙ rw (i .from, i .to, on .seen);
       }
 
-  event-back : (e : Forms.Event) (at k q n least : ℕ) (fs : List Form) → GoodEvent e → at + 35 ≤ length s → Says (allFields (event e)) s at 0
-      → Back s (at + 35) k q n least fs → Back s at (suc k) q n least (event e ∷ fs)
+  event-back : (e : Forms.Event) (at k q n least : ℕ) (fs : List Form) → GoodEvent e → at + eventSize ≤ length s → Says (allFields (event e)) s at 0
+      → Back s (at + eventSize) k q n least fs → Back s at (suc k) q n least (event e ∷ fs)
   unfolding goodEvents eventsFrom eventsOf seenOf
   event-back e at k q n least fs g h y on =
       let i = event-is s at e g h y in
       record { events = both (i .0) (on .events); happened = ap₂ _∷_ (i .1) (on .happened); good = on .good; seen = on .seen }
 
-  given : (fs : List Form) (least k : ℕ) → Owing least k fs → (a : List ℕ) (at q n : ℕ) → s ≡ a ++ encodeAll fs → at ≡ length a → q ≡ at + 35 * k
+  given : (fs : List Form) (least k : ℕ) → Owing least k fs → (a : List ℕ) (at q n : ℕ) → s ≡ a ++ encodeAll fs → at ≡ length a → q ≡ at + eventSize * k
       → length s < q + n → Back s at k q n least fs
   unfolding Owing encodeAll
   given [] least zero o a at q n e i j h =
@@ -195,20 +195,20 @@ module _ (s : List ℕ) where
   given (phase p ∷ fs) least zero o a at q (suc n) e i j h =
       let f = front (phase p) (o .0 .fits) s a (encodeAll fs) at e i in
       let z : q ≡ at = omega arith in
-      let on = given fs (instant (p .end)) (p .events) (o .1) (a ++ encode (phase p)) (at + 105) (at + 105 + 35 * p .events) n (f .rest) (f .place) refl (omega arith) in
+      let on = given fs (instant (p .end)) (p .events) (o .1) (a ++ encode (phase p)) (at + phaseSize) (at + phaseSize + eventSize * p .events) n (f .rest) (f .place) refl (omega arith) in
       rw z (phase-back p at n least fs (o .0) (f .whole) (f .says) on)
   given (phase p ∷ fs) least (suc k) o a at q n e i j h = absurd o
   given (unknown g ∷ fs) least zero o a at q zero e i j h = let f = front (unknown g) (o .0 .fits) s a (encodeAll fs) at e i in absurd (omega (arith, f .whole))
   given (unknown g ∷ fs) least zero o a at q (suc n) e i j h =
       let f = front (unknown g) (o .0 .fits) s a (encodeAll fs) at e i in
       let z : q ≡ at = omega arith in
-      let on = given fs (instant (g .end)) zero (o .1) (a ++ encode (unknown g)) (at + 37) (at + 37) n (f .rest) (f .place) (omega arith) (omega arith) in
+      let on = given fs (instant (g .end)) zero (o .1) (a ++ encode (unknown g)) (at + gapSize) (at + gapSize) n (f .rest) (f .place) (omega arith) (omega arith) in
       rw z (gap-back g at n least fs (o .0) (f .whole) (f .says) on)
   given (unknown g ∷ fs) least (suc k) o a at q n e i j h = absurd o
   given (event x ∷ fs) least zero o a at q n e i j h = absurd o
   given (event x ∷ fs) least (suc k) o a at q n e i j h =
       let f = front (event x) (o .0 .fits) s a (encodeAll fs) at e i in
-      let on = given fs least k (o .1) (a ++ encode (event x)) (at + 35) q n (f .rest) (f .place) (omega arith) h in
+      let on = given fs least k (o .1) (a ++ encode (event x)) (at + eventSize) q n (f .rest) (f .place) (omega arith) h in
       event-back x at k q n least fs (o .0) (f .whole) (f .says) on
   given (point m ∷ fs) least k o a at q n e i j h = absurd o
   given (mark r ∷ fs) least k o a at q n e i j h = absurd o

@@ -10,6 +10,7 @@ use Rattle.wire.specs.Signs.{turned}
 use Rattle.records.specs.Layout.{Place, number, size, kind}
 use Rattle.spans.specs.Spans.{Mark, phase, unknown, Span}
 use Rattle.answer.specs.Forms
+use Rattle.answer.specs.Forms.{phaseKind, phaseLength, gapKind, gapLength, eventKind, eventLength, markKind, markLength, phaseSize, gapSize, eventSize, markSize}
 
 -- ---- the fields of a record at `at`
 
@@ -29,13 +30,13 @@ countAt s at = number Forms.countPlace s at
 
 -- the place behind a phase and its events, and behind the other records
 abbrev pub behindPhase : List ℕ → ℕ → ℕ
-behindPhase s at = at + 105 + 35 * countAt s at
+behindPhase s at = at + phaseSize + eventSize * countAt s at
 
 abbrev pub behindGap : ℕ → ℕ
-behindGap at = at + 37
+behindGap at = at + gapSize
 
 abbrev pub behindMark : ℕ → ℕ
-behindMark at = at + 6
+behindMark at = at + markSize
 
 -- ---- what is good
 
@@ -52,17 +53,17 @@ notEmpty s at = ltb (fromAt s at) (toAt s at)
 
 unfoldable pub goodPhase : List ℕ → ℕ → Bool
 goodPhase s at =
-    ((framed 16 103 s at && leb (number Forms.phasePlace s at) 7) && leb (number Forms.codePlace s at) 3)
+    ((framed phaseKind phaseLength s at && leb (number Forms.phasePlace s at) 7) && leb (number Forms.codePlace s at) 3)
     && (((tagged Forms.fromPlace s at && tagged Forms.toPlace s at) && tagged Forms.wholeBefore s at) && notEmpty s at)
 
 unfoldable pub goodGap : List ℕ → ℕ → Bool
-goodGap s at = (framed 17 35 s at && leb (number (Forms.presentBehind Forms.end) s at) 1) && notEmpty s at
+goodGap s at = (framed gapKind gapLength s at && leb (number (Forms.presentBehind Forms.end) s at) 1) && notEmpty s at
 
 unfoldable pub goodEvent : List ℕ → ℕ → Bool
-goodEvent s at = framed 18 33 s at && tagged Forms.eventAt s at
+goodEvent s at = framed eventKind eventLength s at && tagged Forms.eventAt s at
 
 abbrev pub goodMark : List ℕ → ℕ → Bool
-goodMark s at = framed 21 4 s at
+goodMark s at = framed markKind markLength s at
 
 -- a segment: a phase, or a stretch of which nothing is known
 abbrev pub goodSegment : List ℕ → ℕ → Bool
@@ -71,7 +72,7 @@ goodSegment s at = goodPhase s at || goodGap s at
 -- n events stand one after the other
 unfoldable pub goodEvents : List ℕ → ℕ → ℕ → Bool
 goodEvents s at zero = true
-goodEvents s at (suc n) = goodEvent s at && goodEvents s (at + 35) n
+goodEvents s at (suc n) = goodEvent s at && goodEvents s (at + eventSize) n
 
 -- From `at` on stand segments, the first not before `least`, each not before the one before it ends, and behind each phase as many events
 -- as it counts. Where marks are allowed, a mark begins a row anew. At most n records are looked at.
@@ -83,7 +84,7 @@ goodFrom marks (suc n) s at least =
     let anew = goodFrom marks n s (behindMark at) 0 in
     cond (eqb at (length s)) true
     (cond (goodPhase s at)
-    ((leb least (fromAt s at) && goodEvents s (at + 105) (countAt s at)) && phases)
+    ((leb least (fromAt s at) && goodEvents s (at + phaseSize) (countAt s at)) && phases)
     (cond (goodGap s at)
     (leb least (fromAt s at) && gaps)
     (cond (marks && goodMark s at) anew false)))
@@ -120,14 +121,14 @@ eventOf s at = record { at = placedAt Forms.eventAt s at; code = number Forms.ev
 
 unfoldable pub eventsFrom : List ℕ → ℕ → ℕ → List Event
 eventsFrom s at zero = []
-eventsFrom s at (suc n) = eventOf s at ∷ eventsFrom s (at + 35) n
+eventsFrom s at (suc n) = eventOf s at ∷ eventsFrom s (at + eventSize) n
 
 abbrev pub phaseSeen : List ℕ → ℕ → Span Seen
 phaseSeen s at =
     record {
       from = fromAt s at;
       to = toAt s at;
-      body = record { mark = phase (number Forms.phasePlace s at) (number Forms.evidencePlace s at); events = eventsFrom s (at + 105) (countAt s at) };
+      body = record { mark = phase (number Forms.phasePlace s at) (number Forms.evidencePlace s at); events = eventsFrom s (at + phaseSize) (countAt s at) };
     }
 
 abbrev pub gapSeen : List ℕ → ℕ → Span Seen
@@ -139,7 +140,7 @@ segmentsFrom zero s at = []
 segmentsFrom (suc n) s at =
     let phases = phaseSeen s at ∷ segmentsFrom n s (behindPhase s at) in
     let gaps = gapSeen s at ∷ segmentsFrom n s (behindGap at) in
-    cond (leb (length s) at) [] (cond (eqb (number kind s at) 16) phases (cond (eqb (number kind s at) 17) gaps []))
+    cond (leb (length s) at) [] (cond (eqb (number kind s at) phaseKind) phases (cond (eqb (number kind s at) gapKind) gaps []))
 
 -- where the next mark stands, or the end
 unfoldable pub markFrom : ℕ → List ℕ → ℕ → ℕ
@@ -147,7 +148,7 @@ markFrom zero s at = length s
 markFrom (suc n) s at =
     let phases = markFrom n s (behindPhase s at) in
     let gaps = markFrom n s (behindGap at) in
-    cond (leb (length s) at) (length s) (cond (eqb (number kind s at) 16) phases (cond (eqb (number kind s at) 17) gaps at))
+    cond (leb (length s) at) (length s) (cond (eqb (number kind s at) phaseKind) phases (cond (eqb (number kind s at) gapKind) gaps at))
 
 abbrev pub left : List ℕ → ℕ → ℕ
 left s at = enough s - at

@@ -7,6 +7,7 @@ use lib.ListN.{length}
 use Rattle.records.specs.Layout.{number, kind}
 use Rattle.spans.specs.Spans.{Mark, phase, unknown, Span}
 use Rattle.answer.specs.Forms
+use Rattle.answer.specs.Forms.{phaseKind, phaseSize, eventSize}
 use Rattle.rows.specs.Rows.{Seen, Row, fromAt, toAt, countAt, behindGap, goodEvent, goodEvents, goodSegment, goodMark, goodAt}
 use Rattle.rows.specs.Rows.{left, eventsFrom, markFrom, rowsFrom}
 use Rattle.rows.specs.declared.Shows.{Shows}
@@ -24,7 +25,7 @@ phaseSegment s at =
       to = record { 0 = toAt s at };
       shows = Phase (number Forms.phasePlace s at) (number Forms.evidencePlace s at);
       events = countAt s at;
-      behind = at + 105;
+      behind = at + phaseSize;
     }
 
 abbrev pub gapSegment : List ℕ → ℕ → Segment
@@ -33,7 +34,7 @@ gapSegment s at =
 
 -- the one that stands at `at`
 abbrev pub segmentOf : List ℕ → ℕ → Segment
-segmentOf s at = cond (eqb (number kind s at) 16) (phaseSegment s at) (gapSegment s at)
+segmentOf s at = cond (eqb (number kind s at) phaseKind) (phaseSegment s at) (gapSegment s at)
 
 abbrev pub markOf : Shows → Mark
 markOf (Phase p e) = phase p e
@@ -46,13 +47,13 @@ spanOf s g =
 
 -- the place behind them
 abbrev pub endOf : Segment → ℕ
-endOf g = g .behind + 35 * g .events
+endOf g = g .behind + eventSize * g .events
 
 -- ---- a reading: at a place, where the next segment may not start before `least`, and n events of the last phase are still to come
 
 -- what stands there is good
 abbrev pub goodOn : Bool → List ℕ → ℕ → ℕ → ℕ → Bool
-goodOn marks s at least n = goodEvents s at n && goodAt marks s (at + 35 * n) least
+goodOn marks s at least n = goodEvents s at n && goodAt marks s (at + eventSize * n) least
 
 -- what stands there
 unfoldable pub standsAt : Bool → List ℕ → ℕ → ℕ → ℕ → Stands

@@ -6,9 +6,8 @@ ghost use lib.ListN.{length};
 ghost use Rattle.rows.specs.Rows.{framed as Rows·framed, goodPhase, goodGap, goodEvent, goodRow};
 ghost use Rattle.rows.specs.Telling.{standsAt};
 use crate::Stands;
-use crate::fields::*;
 use crate::reading::segment_at;
-use answer::EVENT_BYTES;
+use answer::*;
 use records::KIND;
 use records::LAST_CODE;
 use records::LAST_PHASE;
@@ -36,13 +35,13 @@ fn good_phase(bytes: &[u8], at: usize) -> bool
     requires { ⌜ at ≤ length (now bytes) ⌝ }
     ensures { λ r. ⌜ r ≡ goodPhase (now (bytes .entry)) at ⌝ }
 {
-    if !framed(bytes, at, 16, 103) {
+    if !framed(bytes, at, PHASE_KIND, PHASE_LENGTH) {
         return false;
     }
     let phase = get1(bytes, at + PHASE);
     let code = get1(bytes, at + CODE);
-    let first = get1(bytes, at + START_TAG);
-    let last = get1(bytes, at + END_TAG);
+    let first = get1(bytes, at + FROM_TAG);
+    let last = get1(bytes, at + TO_TAG);
     let whole = get1(bytes, at + WHOLE_TAG);
     let start = signed8(bytes, at + START).0;
     let end = signed8(bytes, at + END).0;
@@ -54,7 +53,7 @@ fn good_gap(bytes: &[u8], at: usize) -> bool
     requires { ⌜ at ≤ length (now bytes) ⌝ }
     ensures { λ r. ⌜ r ≡ goodGap (now (bytes .entry)) at ⌝ }
 {
-    if !framed(bytes, at, 17, 35) {
+    if !framed(bytes, at, GAP_KIND, GAP_LENGTH) {
         return false;
     }
     let present = get1(bytes, at + PRESENT);
@@ -67,7 +66,7 @@ fn good_event(bytes: &[u8], at: usize) -> bool
     requires { ⌜ at ≤ length (now bytes) ⌝ }
     ensures { λ r. ⌜ r ≡ goodEvent (now (bytes .entry)) at ⌝ }
 {
-    if !framed(bytes, at, 18, 33) {
+    if !framed(bytes, at, EVENT_KIND, EVENT_LENGTH) {
         return false;
     }
     get1(bytes, at + EVENT_TAG) <= LAST_TAG
@@ -93,7 +92,7 @@ pub fn stands_at(bytes: &[u8], at: usize, least: u64, waiting: u32, marks: bool)
         }
         return Stands::Segment;
     }
-    if marks & framed(bytes, at, 21, 4) {
+    if marks & framed(bytes, at, MARK_KIND, MARK_LENGTH) {
         return Stands::Mark;
     }
     Stands::Bad
@@ -125,7 +124,7 @@ pub fn good_row(row: &[u8]) -> bool
                 waiting = g.events;
             }
             Stands::Event => {
-                at += EVENT_BYTES;
+                at += EVENT_SIZE;
                 waiting -= 1;
             }
         }

@@ -1,10 +1,8 @@
 // Rows of a timeline's bytes, as a host kept them: judged and read record by record.
 
-mod fields;
 mod judge;
 mod reading;
 
-pub use fields::MARK_BYTES;
 pub use judge::good_row;
 pub use judge::stands_at;
 pub use reading::end_of;

@@ -3,22 +3,18 @@ ghost use Prim.Native.Nat.{_^_, _<_};
 ghost use mathlib.Core.Path.{_≡_};
 ghost use mathlib.Core.Bool.{true};
 ghost use Rattle.wire.specs.Fields.{Inside};
+ghost use Rattle.answer.specs.Forms.{eventSize};
 ghost use Rattle.rows.specs.Rows.{goodSegment, eventOf};
 ghost use Rattle.rows.specs.Telling.{segmentOf, endOf};
 use crate::Event;
 use crate::Segment;
 use crate::Shows;
-use crate::fields::*;
-use answer::EVENT_BYTES;
-use answer::GAP_BYTES;
-use answer::PHASE_BYTES;
+use answer::*;
 use records::KIND;
 use wire::get1;
 use wire::get2;
 use wire::get4;
 use wire::signed8;
-
-const PHASE_KIND: u16 = 16;
 
 // The segment that stands at a place.
 pub fn segment_at(bytes: &[u8], at: usize) -> Segment
@@ -35,7 +31,7 @@ pub fn segment_at(bytes: &[u8], at: usize) -> Segment
             to,
             shows: Shows::Phase(phase, evidence),
             events: get4(bytes, at + COUNT),
-            behind: at + PHASE_BYTES,
+            behind: at + PHASE_SIZE,
         };
     }
     Segment {
@@ -43,7 +39,7 @@ pub fn segment_at(bytes: &[u8], at: usize) -> Segment
         to,
         shows: Shows::Unknown,
         events: 0,
-        behind: at + GAP_BYTES,
+        behind: at + GAP_SIZE,
     }
 }
 
@@ -52,12 +48,12 @@ pub fn end_of(g: Segment) -> usize
     requires { ⌜ endOf g < 2 ^ 64 ⌝ }
     ensures { λ r. ⌜ r ≡ endOf g ⌝ }
 {
-    g.behind + EVENT_BYTES * g.events as usize
+    g.behind + EVENT_SIZE * g.events as usize
 }
 
 // The event that stands at a place.
 pub fn event_at(bytes: &[u8], at: usize) -> Event
-    requires { ⌜ Inside at 35 (now bytes) ⌝ }
+    requires { ⌜ Inside at eventSize (now bytes) ⌝ }
     ensures { λ r. ⌜ (r .at .0 ≡ eventOf (now (bytes .entry)) at .at) × (r .code ≡ eventOf (now (bytes .entry)) at .code) ⌝ }
 {
     let at_event = signed8(bytes, at + EVENT_AT);

@@ -24,7 +24,7 @@ use Rattle.query.specs.Judging.{windowOf, windowNumber, judgedBy}
 use Rattle.query.specs.declared.Judged.the-variants.{Refused}
 use Rattle.query.proofs.Windows.{Windowed}
 use Rattle.query.proofs.Books.{Blanked, Named, judged-refused}
-use Rattle.answer.specs.Forms.{encodeAll}
+use Rattle.answer.specs.Forms.{encodeAll, rowSize}
 use Rattle.lend.specs.Lending.{Lent}
 use Rattle.lend.specs.declared.Reply.{Reply}
 use Rattle.lend.proofs.Replies.{lent-refused, lent-short, lent-written, lent-same, lent-reply}
@@ -51,7 +51,7 @@ module _ (all : List (Span Mark)) (start end : ℕ) {room : List ℕ} {r : Reply
       let e = lt-ltb mostNs (end - start) h in
       rw e (lent-reply (lent-refused (written all start end) room (λ z. omega arith)) q)
 
-  module _ (h : end - start ≤ mostNs) {n : ℕ} (e : n ≡ 100 * (length (rowsOf start end) + 1)) where
+  module _ (h : end - start ≤ mostNs) {n : ℕ} (e : n ≡ rowSize * (length (rowsOf start end) + 1)) where
     pub tally-short : length room < n → r ≡ record { number = 16; length = 0 } → Lent (tooLong start end) (written all start end) room room r
     tally-short l q = lent-reply (lent-short (written all start end) room (short-enough start end h) (omega (arith, e, forms-long all start end))) q
 

@@ -1,7 +1,7 @@
 -- The pass over a window's stretches: they are in order, and each piece of the walk is the next of them. Assumes nothing.
 use mathlib.Core.Path.{_≡_, refl, sym, ap, subst, _∙_}
 use mathlib.Core.List.{List, [], _∷_, _++_, map}
-use Prim.Native.Nat.{ℕ, _+_, _*_, _≤_, _<_, min, max}
+use Prim.Native.Nat.{ℕ, _+_, _*_, _≤_, _<_, min, max, _-_}
 use native.Mathlib.Omega.{arith}
 use native.Mathlib.Decide.{decLe}
 use lib.ListN.{length}
@@ -26,7 +26,7 @@ use Rattle.walk.specs.declared.Pulled.the-variants.{Done, Next}
 use Rattle.walk.specs.declared.Turned.{Turned}
 use Rattle.walk.specs.declared.Turned.the-variants.{Done as Turned·Done, On}
 use Rattle.walk.proofs.Looking.{looked-shown, looked-comes}
-use Rattle.answer.specs.Forms.{encodeAll}
+use Rattle.answer.specs.Forms.{encodeAll, rowSize}
 use Rattle.pages.specs.Rows.{rowsOf}
 use Rattle.pages.specs.Pages.{stretchOf, rawForms, Slot, Ahead, Ordered, Standing, Coming, Counted, Ending, Ended, First}
 use Rattle.tally.specs.Private.{heldMark, rawBlank, rawOf, walked, AllComing, AllCounted}
@@ -90,7 +90,7 @@ module _ {start end after : ℕ} {all : List (Span Mark)} {room now : List ℕ} 
     last-put e = e .on all room last-counted
 
 -- a venue without data has no other
-pub blank-first : {start end : ℕ} {room : List ℕ} → start < end → Inside 0 (100 * (length (rowsOf start end) + 1)) room
+pub blank-first : {start end : ℕ} {room : List ℕ} → start < end → Inside 0 (rowSize * (length (rowsOf start end) + 1)) room
     → {p : Page} {row whole : List ℕ} → First start end p row whole
     → Standing (rawBlank start end) (rawBlank start end) start end room room p row whole
 blank-first {start} {end} h fits f = first-standing (rawBlank start end) h (blank-ordered start end) (omega (arith, fits)) f
@@ -136,7 +136,7 @@ module _ (s : List ℕ) (first : ℕ) (ats offsets rules : List ℕ) (hi : ℕ) 
   come-first c = ap (map heldMark) (c .first)
 
   module _ {start end : ℕ} where
-    walk-standing : {lo : ℕ} {w : Walk} {a : List ℕ} → Begun s zone venue 3659 lo w a
+    walk-standing : {lo : ℕ} {w : Walk} {a : List ℕ} → Begun s zone venue (turns - 1) lo w a
         → {all : List (Span Mark)} (last : List (Span Mark)) {room now : List ℕ} {p : Page} {row whole : List ℕ}
         → Standing all (walked s first ats offsets rules lo hi ++ last) start end room now p row whole
         → Standing all (pieces w ++ last) start end room now p row whole
@@ -158,7 +158,7 @@ module _ (s : List ℕ) (first : ℕ) (ats offsets rules : List ℕ) (hi : ℕ) 
         piece-standing all last room x =
             subst (λ (l : List (Span Mark)). Standing all (l ++ last) start end room now1 p1 row1 whole1) (come-first c) (r .on all last room x)
 
-        pub walked-coming : {lo : ℕ} {a′ : List ℕ} → Begun s zone venue 3659 lo w a′
+        pub walked-coming : {lo : ℕ} {a′ : List ℕ} → Begun s zone venue (turns - 1) lo w a′
             → AllComing (walked s first ats offsets rules lo hi) now p start end row whole
             → Coming now1 p1 start end (q .from .0) (q .to .0) j row1 whole1
         walked-coming b x =
@@ -211,7 +211,7 @@ module _ (s : List ℕ) (first : ℕ) (ats offsets rules : List ℕ) (hi : ℕ) 
           pub turn-less : length (pieces w2) + w2 .turns < length (pieces w1) + w1 .turns
           turn-less = let m = ap length turn-pieces in omega (arith, m, turned .fewer)
 
-        pub walk-counted : t ≡ Turned·Done → {lo : ℕ} {a′ : List ℕ} → Begun s zone venue 3659 lo w a′
+        pub walk-counted : t ≡ Turned·Done → {lo : ℕ} {a′ : List ℕ} → Begun s zone venue (turns - 1) lo w a′
             → AllCounted (walked s first ats offsets rules lo hi) now p start end row whole now1 p1 row1 whole1
         walk-counted e b =
             let done = ap (map heldMark) (subst (λ (x : Turned). Leads s zone venue hi w1 x a) e l) in
@@ -236,7 +236,7 @@ module _ (s : List ℕ) (h : Header) (ats offsets rules events : List ℕ) where
   pub record Opens (start end : ℕ) (room : List ℕ) (p : Page) (row whole : List ℕ) (before lo hi after : ℕ) : Type 0 where
     pub covers : h .start .0 < h .end .0
     pub order : start < end
-    pub fits : Inside 0 (100 * (length (rowsOf start end) + 1)) room
+    pub fits : Inside 0 (rowSize * (length (rowsOf start end) + 1)) room
     pub first : First start end p row whole
     pub before-is : before ≡ min end (h .start .0)
     pub lo-is : lo ≡ max start (h .start .0)

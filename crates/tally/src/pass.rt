@@ -2,16 +2,16 @@
 ghost use Prim.Native.Nat.{_+_, _*_, _<_};
 ghost use lib.ListN.{length};
 ghost use Rattle.wire.specs.Fields.{Inside, Put};
-ghost use Rattle.answer.specs.Forms.{encodeAll};
+ghost use Rattle.answer.specs.Forms.{encodeAll, rowSize};
 ghost use Rattle.zone.specs.Answers.{Valid};
-ghost use Rattle.venue.specs.Reading.{AllListed};
+ghost use Rattle.venue.specs.Reading.{ListedRules};
 ghost use Rattle.venue.specs.Filled.{Ready};
 ghost use Rattle.day.specs.Meaning.{valuesAt};
 ghost use Rattle.pages.specs.Rows.{rowsOf};
 ghost use Rattle.pages.specs.Pages.{rawForms};
 ghost use Rattle.tally.specs.Private.{rawBlank, rawOf, walked, AllComing, AllCounted};
+use answer::TOTALS;
 use pages::Page;
-use pages::SLOTS;
 use pages::UNKNOWN;
 use pages::finish;
 use pages::first_page;
@@ -33,11 +33,11 @@ use zone::Instant;
 
 // A venue without data.
 pub(crate) fn put_blank(start: Instant, end: Instant, out: &mut [u8]) -> usize
-    requires { ⌜ (start .0 < end .0) × Inside 0 (100 * (length (rowsOf (start .0) (end .0)) + 1)) (now out) ⌝ }
+    requires { ⌜ (start .0 < end .0) × Inside 0 (rowSize * (length (rowsOf (start .0) (end .0)) + 1)) (now out) ⌝ }
     ensures { λ r. ⌜ Put (now (out .entry)) 0 (encodeAll (rawForms (rawBlank (start .0) (end .0)) (start .0) (end .0))) r (now (out .exit)) r ⌝ }
 {
-    let mut row = [0u64; SLOTS];
-    let mut whole = [0u64; SLOTS];
+    let mut row = [0u64; TOTALS];
+    let mut whole = [0u64; TOTALS];
     let page = first_page(start, end, &mut row, &mut whole);
     let last = stretch(
         out,
@@ -66,10 +66,10 @@ fn count_walk(
     end: Instant,
     out: &mut [u8],
     page: Page,
-    row: &mut [u64; SLOTS],
-    whole: &mut [u64; SLOTS],
+    row: &mut [u64; TOTALS],
+    whole: &mut [u64; TOTALS],
 ) -> Page
-    requires { ⌜ Valid first (now ats) (now offsets) × AllListed 3 (now book) (now rules)
+    requires { ⌜ Valid first (now ats) (now offsets) × ListedRules (now book) (now rules)
         × AllComing (walked (now book) first (now ats) (now offsets) (now rules) (lo .0) (hi .0)) (now out) page (start .0) (end .0) (now row) (now whole) ⌝ }
     ensures { λ r. ⌜ AllCounted
         (walked (now (book .entry)) first (now (ats .entry)) (now (offsets .entry)) (now (rules .entry)) (lo .0) (hi .0))
@@ -135,7 +135,7 @@ pub(crate) fn put_tallies(
     out: &mut [u8],
 ) -> usize
     requires { ⌜ Ready (now book) (h .first) (now ats) (now offsets) (now rules) (now events) × (h .start .0 < h .end .0)
-        × (start .0 < end .0) × Inside 0 (100 * (length (rowsOf (start .0) (end .0)) + 1)) (now out) ⌝ }
+        × (start .0 < end .0) × Inside 0 (rowSize * (length (rowsOf (start .0) (end .0)) + 1)) (now out) ⌝ }
     ensures { λ r. ⌜ Put (now (out .entry)) 0
         (encodeAll (rawForms
         (rawOf (valuesAt (now (book .entry)) h (now (ats .entry)) (now (offsets .entry)) (now (rules .entry)) (now (events .entry))) (start .0) (end .0))
@@ -149,8 +149,8 @@ pub(crate) fn put_tallies(
     let lo = Instant(later(start.0, covered_from.0));
     let hi = Instant(earlier(end.0, covered_to.0));
     let after = Instant(later(start.0, covered_to.0));
-    let mut row = [0u64; SLOTS];
-    let mut whole = [0u64; SLOTS];
+    let mut row = [0u64; TOTALS];
+    let mut whole = [0u64; TOTALS];
     let page = first_page(start, end, &mut row, &mut whole);
     let opened = stretch(
         out,

@@ -15,7 +15,7 @@ use Rattle.events.specs.Keeping.{listed, bestAt, keptAt, keptOf, Next}
 use Rattle.events.specs.declared.Occurrence.{Occurrence}
 use Rattle.events.proofs.Choosing.{best-some, best-none, listed-length}
 use Rattle.events.proofs.Collecting.{Holds}
-use Rattle.answer.specs.Forms.{Form, event, encode, encodeAll}
+use Rattle.answer.specs.Forms.{Form, event, encode, encodeAll, eventSize}
 use Rattle.answer.specs.Meaning.{eventOf}
 use Rattle.tell.specs.Shown.{eventForm}
 use Rattle.tell.proofs.Trailing.{no-turn, Trailing, trail-start, trail-room, trail-one, trail-end}
@@ -36,7 +36,7 @@ module _ (book when which : List ℕ) (n : ℕ) (room : List ℕ) (at : ℕ) whe
   pub record Turning (now : List ℕ) (place next i : ℕ) : Type 0 where
     pub trailing : Trailing (listed o 0 n) room at now place i (bestAt o n next)
 
-  pub turn-start : {next : ℕ} → Inside at (35 * n) room → Next when n 0 0 next → Turning room at next 0
+  pub turn-start : {next : ℕ} → Inside at (eventSize * n) room → Next when n 0 0 next → Turning room at next 0
   turn-start f p = record { trailing = trail-start (listed o 0 n) room at (omega (arith, listed-length o 0 n)) (sym (p .best o (λ i h. refl))) }
 
   module _ {now : List ℕ} {place next i : ℕ} (w : Turning now place next i) where
@@ -53,30 +53,30 @@ module _ (book when which : List ℕ) (n : ℕ) (room : List ℕ) (at : ℕ) whe
     here : i < n → i < length (listed o 0 n)
     here h = omega (arith, listed-length o 0 n)
 
-    pub turn-room : i < n → place + 35 ≤ length now
+    pub turn-room : i < n → place + eventSize ≤ length now
     turn-room h = trail-room (listed o 0 n) room at (w .trailing) (here h) (o next) next (best-some o n next (turn-next h))
 
     pub turn-one : {now′ : List ℕ} {place′ next′ code evidence : ℕ} {u : Uncertainty} → i < n
         → u ≡ published (eventAt book (getD which next 0) .uncertainty)
         → code ≡ eventAt book (getD which next 0) .code → evidence ≡ eventAt book (getD which next 0) .evidence
-        → Put now place (encode (event (eventOf code (record { at = record { 0 = getD when next 0 }; uncertainty = u }) evidence))) 35 now′ place′
+        → Put now place (encode (event (eventOf code (record { at = record { 0 = getD when next 0 }; uncertainty = u }) evidence))) eventSize now′ place′
         → Next when n (getD when next 0) (next + 1) next′ → Turning now′ place′ next′ (i + 1)
     turn-one {now′} {place′} h d e f put p =
         record {
           trailing =
               trail-one (listed o 0 n) room at (w .trailing) (here h) (o next) next (best-some o n next (turn-next h))
-              (subst (λ (x : Form). Put now place (encode x) 35 now′ place′) (kept-form book (getD when next 0) (getD which next 0) d e f) put) (sym (p .best o (λ j l. refl)));
+              (subst (λ (x : Form). Put now place (encode x) eventSize now′ place′) (kept-form book (getD when next 0) (getD which next 0) d e f) put) (sym (p .best o (λ j l. refl)));
         }
 
-    pub turn-end : n ≤ i → Put room at (encodeAll (map eventForm (byInstant (listed o 0 n)))) (35 * n) now place
+    pub turn-end : n ≤ i → Put room at (encodeAll (map eventForm (byInstant (listed o 0 n)))) (eventSize * n) now place
     turn-end h =
-        subst (λ (m : ℕ). Put room at (encodeAll (map eventForm (byInstant (listed o 0 n)))) (35 * m) now place) (listed-length o 0 n)
+        subst (λ (m : ℕ). Put room at (encodeAll (map eventForm (byInstant (listed o 0 n)))) (eventSize * m) now place) (listed-length o 0 n)
         (trail-end (listed o 0 n) room at (w .trailing) (omega (arith, listed-length o 0 n)))
 
 -- where the arrays hold the events of a span, these are written
 pub held-put : {book a b a′ b′ room now : List ℕ} {at n place : ℕ} {os : List Occurrence} → Holds book a b a′ b′ n os → n ≤ length a → n ≤ length b
-    → Put room at (encodeAll (map eventForm (byInstant (listed (keptOf book a′ b′) 0 n)))) (35 * n) now place
-    → Put room at (encodeAll (map eventForm (byInstant os))) (35 * length os) now place
+    → Put room at (encodeAll (map eventForm (byInstant (listed (keptOf book a′ b′) 0 n)))) (eventSize * n) now place
+    → Put room at (encodeAll (map eventForm (byInstant os))) (eventSize * length os) now place
 held-put {room = room} {now} {at} {n} {place} {os} held g h put =
-    subst (λ (m : ℕ). Put room at (encodeAll (map eventForm (byInstant os))) (35 * m) now place) (held .count)
-    (subst (λ (ps : List Occurrence). Put room at (encodeAll (map eventForm (byInstant ps))) (35 * n) now place) (held .same g h) put)
+    subst (λ (m : ℕ). Put room at (encodeAll (map eventForm (byInstant os))) (eventSize * m) now place) (held .count)
+    (subst (λ (ps : List Occurrence). Put room at (encodeAll (map eventForm (byInstant ps))) (eventSize * n) now place) (held .same g h) put)

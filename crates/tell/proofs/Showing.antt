@@ -7,13 +7,13 @@ use lib.ListN.{length, length-append}
 use Rattle.wire.specs.Fields.{Inside, Put}
 use Rattle.wire.proofs.Writing.{also}
 use Rattle.answer.specs.Forms as Forms
-use Rattle.answer.specs.Forms.{phase, encode, encodeAll}
+use Rattle.answer.specs.Forms.{phase, encode, encodeAll, phaseSize, eventSize}
 use Rattle.answer.proofs.Readback.{encode-length}
 use Rattle.tell.specs.Shown.{Shown, headForm, eventForm, shownForms}
 use Rattle.tell.proofs.Trailing.{events-length}
 
 module _ (from to : ℕ) (x : Shown) where
-  pub shown-length : length (encodeAll (shownForms from to x)) ≡ 105 + 35 * length (x .events)
+  pub shown-length : length (encodeAll (shownForms from to x)) ≡ phaseSize + eventSize * length (x .events)
   unfolding encodeAll
   shown-length =
       let head = phase (headForm from to (x .held) (x .whole) (length (x .events))) in
@@ -21,9 +21,9 @@ module _ (from to : ℕ) (x : Shown) where
 
   -- the one written, then the others behind it
   pub shown-put : {room now left : List ℕ} {at place next n k : ℕ} {p : Forms.Phase} → n ≡ length (x .events) → p ≡ headForm from to (x .held) (x .whole) n
-      → Put room at (encode (phase p)) 105 now place → Put now place (encodeAll (map eventForm (x .events))) k left next → Inside at (105 + k) room
-      → Put room at (encodeAll (shownForms from to x)) (105 + k) left next
+      → Put room at (encode (phase p)) phaseSize now place → Put now place (encodeAll (map eventForm (x .events))) k left next → Inside at (phaseSize + k) room
+      → Put room at (encodeAll (shownForms from to x)) (phaseSize + k) left next
   unfolding encodeAll
   shown-put {k = k} e q h w f =
       let same = q ∙ ap (headForm from to (x .held) (x .whole)) e in
-      also (105 + k) (rw same at h) w refl f
+      also (phaseSize + k) (rw same at h) w refl f

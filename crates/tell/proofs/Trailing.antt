@@ -16,16 +16,16 @@ use Rattle.events.specs.declared.Best.the-variants.{None, Some}
 use Rattle.events.specs.declared.Search.{Search}
 use Rattle.events.proofs.Order.{length-sorted}
 use Rattle.events.proofs.Turns.{begun-count, in-turn}
-use Rattle.answer.specs.Forms.{encode, encodeAll, allFields}
+use Rattle.answer.specs.Forms.{encode, encodeAll, allFields, eventSize}
 use Rattle.tell.specs.Shown.{eventForm}
 
 -- ---- lengths
 
-pub event-length : (o : Occurrence) → length (encode (eventForm o)) ≡ 35
+pub event-length : (o : Occurrence) → length (encode (eventForm o)) ≡ eventSize
 unfolding encode
 event-length o = laid-length (allFields (eventForm o))
 
-pub events-length : (os : List Occurrence) → length (encodeAll (map eventForm os)) ≡ 35 * length os
+pub events-length : (os : List Occurrence) → length (encodeAll (map eventForm os)) ≡ eventSize * length os
 unfolding encodeAll
 events-length [] = refl
 events-length (o ∷ os) =
@@ -59,7 +59,7 @@ below-begun at index os = go (sought (begin at index) os .best) (below-sought (b
     go (Some o i) h = omega (arith, begun-count at index os refl)
 
 -- no events are no bytes
-pub put-none : {os : List Occurrence} (room : List ℕ) (at : ℕ) → os ≡ [] → Put room at (encodeAll (map eventForm (byInstant os))) (35 * length os) room at
+pub put-none : {os : List Occurrence} (room : List ℕ) (at : ℕ) → os ≡ [] → Put room at (encodeAll (map eventForm (byInstant os))) (eventSize * length os) room at
 unfolding encodeAll byInstant
 put-none room at e = rw e (record { same = sym (wrote-nothing room at); behind = omega arith; many = refl; kept = refl })
 
@@ -76,11 +76,11 @@ module _ (os : List Occurrence) (room : List ℕ) (at : ℕ) where
     pub below : Below best (length os)
     pub left : i + length (inTurn os (length os - i) best) ≡ length os
     pub same : wrote room at (encodeAll (map eventForm (byInstant os))) ≡ wrote now place (encodeAll (map eventForm (inTurn os (length os - i) best)))
-    pub behind : place ≡ at + 35 * i
-    pub fits : at + 35 * length os ≤ length room
+    pub behind : place ≡ at + eventSize * i
+    pub fits : at + eventSize * length os ≤ length room
     pub kept : length now ≡ length room
 
-  pub trail-start : at + 35 * length os ≤ length room → {best : Best} → best ≡ sought (begin 0 0) os .best → Trailing room at 0 best
+  pub trail-start : at + eventSize * length os ≤ length room → {best : Best} → best ≡ sought (begin 0 0) os .best → Trailing room at 0 best
   trail-start h e =
       let z : length os - 0 ≡ length os = omega arith in
       let q : inTurn os (length os - 0) _ ≡ byInstant os = ap₂ (inTurn os) z e ∙ in-turn os in
@@ -95,7 +95,7 @@ module _ (os : List Occurrence) (room : List ℕ) (at : ℕ) where
 
   module _ {now : List ℕ} {place i : ℕ} {best : Best} (w : Trailing now place i best) where
     -- nothing is left
-    over : inTurn os (length os - i) best ≡ [] → Put room at (encodeAll (map eventForm (byInstant os))) (35 * length os) now place
+    over : inTurn os (length os - i) best ≡ [] → Put room at (encodeAll (map eventForm (byInstant os))) (eventSize * length os) now place
     unfolding encodeAll
     over e =
         record {
@@ -105,11 +105,11 @@ module _ (os : List Occurrence) (room : List ℕ) (at : ℕ) where
           kept = w .kept;
         }
 
-    pub trail-end : length os ≤ i → Put room at (encodeAll (map eventForm (byInstant os))) (35 * length os) now place
+    pub trail-end : length os ≤ i → Put room at (encodeAll (map eventForm (byInstant os))) (eventSize * length os) now place
     unfolding inTurn
     trail-end h = let z : length os - i ≡ 0 = omega arith in over (ap (λ (n : ℕ). inTurn os n best) z)
 
-    pub trail-none : best ≡ None → Put room at (encodeAll (map eventForm (byInstant os))) (35 * length os) now place
+    pub trail-none : best ≡ None → Put room at (encodeAll (map eventForm (byInstant os))) (eventSize * length os) now place
     trail-none e = over (ap (inTurn os (length os - i)) e ∙ no-turn os (length os - i))
 
     module _ (h : i < length os) (o : Occurrence) (index : ℕ) (e : best ≡ Some o index) where
@@ -123,18 +123,18 @@ module _ (os : List Occurrence) (room : List ℕ) (at : ℕ) where
       pub trail-index : index < length os
       trail-index = rw e at (w .below)
 
-      pub trail-room : place + 35 ≤ length now
+      pub trail-room : place + eventSize ≤ length now
       trail-room = omega (arith, w .behind, w .fits, w .kept)
 
-      pub trail-one : {now′ : List ℕ} {place′ : ℕ} {best′ : Best} → Put now place (encode (eventForm o)) 35 now′ place′ → best′ ≡ next
+      pub trail-one : {now′ : List ℕ} {place′ : ℕ} {best′ : Best} → Put now place (encode (eventForm o)) eventSize now′ place′ → best′ ≡ next
           → Trailing now′ place′ (i + 1) best′
       unfolding encodeAll
       trail-one {now′} {place′} {best′} p b =
           let rest = encodeAll (map eventForm (inTurn os (length os - (i + 1)) next)) in
           let l = ap length turn in
           let more : i + 1 + length (inTurn os (length os - (i + 1)) next) ≡ length os = omega (arith, w .left) in
-          let place-is : place ≡ at + 35 * i = w .behind in
-          let next-is : place′ ≡ place + 35 = p .behind in
+          let place-is : place ≡ at + eventSize * i = w .behind in
+          let next-is : place′ ≡ place + eventSize = p .behind in
           let fit : place′ + length rest ≤ length now =
           omega (arith, more, next-is, place-is, w .fits, w .kept, events-length (inTurn os (length os - (i + 1)) next)) in
           rw b

@@ -7,11 +7,12 @@ ghost use Rattle.wire.specs.Fields.{Inside, Put};
 ghost use Rattle.zone.specs.Zone.{zoneOf};
 ghost use Rattle.zone.specs.Answers.{Valid};
 ghost use Rattle.records.specs.Records.{eventAt};
-ghost use Rattle.venue.specs.Reading.{Listed, AllListed};
+ghost use Rattle.venue.specs.Reading.{ListedRule, ListedEvent, ListedEvents};
 ghost use Rattle.day.specs.Meaning.{heldBy};
 ghost use Rattle.events.specs.Happenings.{found, byInstant, eventsIn};
 ghost use Rattle.events.specs.Keeping.{listed, keptOf};
-ghost use Rattle.answer.specs.Forms.{encodeAll};
+ghost use Rattle.answer.specs.Forms.{encodeAll, eventSize};
+ghost use Rattle.records.specs.Limits.{base};
 ghost use Rattle.tell.specs.Shown.{headOf, eventForm};
 use answer::Phase;
 use answer::put_event;
@@ -41,7 +42,7 @@ pub fn phase_of(
     to: Instant,
     events: u32,
 ) -> Phase
-    requires { ⌜ Listed 3 (now book) (g .rule) ⌝ }
+    requires { ⌜ ListedRule (now book) (g .rule) ⌝ }
     ensures { λ r. ⌜ r ≡ headOf (from .0) (to .0) (heldBy (now (book .entry)) g) whole events ⌝ }
 {
     let rule = g.rule as usize;
@@ -67,11 +68,11 @@ const MOST_KEPT: usize = 32;
 
 // The n events that two arrays keep, one after the other, from `at` on. Answers the place behind them.
 fn put_kept(book: &[u8], when: &[u64], which: &[u32], n: usize, out: &mut [u8], at: usize) -> usize
-    requires { ⌜ (n ≤ length (now when)) × (n ≤ length (now which)) × ((i : ℕ) → i < n → Listed 4 (now book) (getD (now which) i 0))
-        × Inside at (35 * n) (now out) ⌝ }
+    requires { ⌜ (n ≤ length (now when)) × (n ≤ length (now which)) × ((i : ℕ) → i < n → ListedEvent (now book) (getD (now which) i 0))
+        × Inside at (eventSize * n) (now out) ⌝ }
     ensures { λ r. ⌜ Put (now (out .entry)) at
         (encodeAll (map eventForm (byInstant (listed (keptOf (now (book .entry)) (now (when .entry)) (now (which .entry))) 0 n))))
-        (35 * n) (now (out .exit)) r ⌝ }
+        (eventSize * n) (now (out .exit)) r ⌝ }
 {
     let mut place = at;
     let mut next = next_kept(when, n, Instant(0), 0);
@@ -108,12 +109,12 @@ fn put_sought(
     out: &mut [u8],
     at: usize,
 ) -> usize
-    requires { ⌜ Valid first (now ats) (now offsets) × AllListed 4 (now book) (now events) × (length (now events) ≤ 32)
-        × Inside at (35 * length (found (zoneOf first (now ats) (now offsets)) (map (eventAt (now book)) (now events)) (from .0) (to .0))) (now out) ⌝ }
+    requires { ⌜ Valid first (now ats) (now offsets) × ListedEvents (now book) (now events) × (length (now events) ≤ base .events)
+        × Inside at (eventSize * length (found (zoneOf first (now ats) (now offsets)) (map (eventAt (now book)) (now events)) (from .0) (to .0))) (now out) ⌝ }
     ensures { λ r. ⌜ Put (now (out .entry)) at
         (encodeAll (map eventForm (eventsIn (zoneOf first (now (ats .entry)) (now (offsets .entry)))
         (map (eventAt (now (book .entry))) (now (events .entry))) (from .0) (to .0))))
-        (35 * length (found (zoneOf first (now (ats .entry)) (now (offsets .entry))) (map (eventAt (now (book .entry))) (now (events .entry))) (from .0) (to .0)))
+        (eventSize * length (found (zoneOf first (now (ats .entry)) (now (offsets .entry))) (map (eventAt (now (book .entry))) (now (events .entry))) (from .0) (to .0)))
         (now (out .exit)) r ⌝ }
 {
     let s = search_events(book, first, ats, offsets, events, from, to, Instant(0), 0);
@@ -151,12 +152,12 @@ pub fn put_events(
     out: &mut [u8],
     at: usize,
 ) -> usize
-    requires { ⌜ Valid first (now ats) (now offsets) × AllListed 4 (now book) (now events) × (length (now events) ≤ 32)
-        × Inside at (35 * length (found (zoneOf first (now ats) (now offsets)) (map (eventAt (now book)) (now events)) (from .0) (to .0))) (now out) ⌝ }
+    requires { ⌜ Valid first (now ats) (now offsets) × ListedEvents (now book) (now events) × (length (now events) ≤ base .events)
+        × Inside at (eventSize * length (found (zoneOf first (now ats) (now offsets)) (map (eventAt (now book)) (now events)) (from .0) (to .0))) (now out) ⌝ }
     ensures { λ r. ⌜ Put (now (out .entry)) at
         (encodeAll (map eventForm (eventsIn (zoneOf first (now (ats .entry)) (now (offsets .entry)))
         (map (eventAt (now (book .entry))) (now (events .entry))) (from .0) (to .0))))
-        (35 * length (found (zoneOf first (now (ats .entry)) (now (offsets .entry))) (map (eventAt (now (book .entry))) (now (events .entry))) (from .0) (to .0)))
+        (eventSize * length (found (zoneOf first (now (ats .entry)) (now (offsets .entry))) (map (eventAt (now (book .entry))) (now (events .entry))) (from .0) (to .0)))
         (now (out .exit)) r ⌝ }
 {
     if events.len() == 0 {

@@ -26,8 +26,8 @@ use Rattle.records.specs.Limits.{base}
 use Rattle.records.specs.Records.{Published, Point, Rule, Event, Coverage, ruleAt, eventAt}
 use Rattle.records.specs.Book.{refusal, records}
 use Rattle.records.specs.Valid.{Bytes, FitsRule, FitsEvent}
-use Rattle.venue.specs.Opening.{dayOf, offsetOf, coverageOf, rulesOf, eventsOf, atsOf, offsetsOf, places}
-use Rattle.venue.specs.Reading.{Listed, published, EachPoint, GoodRule}
+use Rattle.venue.specs.Opening.{dayOf, offsetOf, coverageOf, rulesOf, eventsOf, atsOf, offsetsOf, eventPlaces}
+use Rattle.venue.specs.Reading.{published, EachPoint, GoodRule, ListedRule}
 use Rattle.venue.proofs.Laws.{good-rule, places-listed, events-listed, events-count, zone-valid}
 use Rattle.spans.specs.Spans.{Span, Body, keep, clip, reach, joins, joinedSpan, joinFrom, joined}
 use Rattle.spans.specs.Timeline.{Edge, Venue, Part, midnight, raised, cut, ofPoints, ofRule, spans, walk, turns, unjoined, timeline}
@@ -35,7 +35,7 @@ use Rattle.day.specs.Governing.{governing}
 use Rattle.day.specs.Days.{boundaryOf, valuesOf}
 use Rattle.day.proofs.Listed.{governing-listed}
 use Rattle.walk.proofs.Laws.{walk-length}
-use Rattle.events.specs.Happenings.{happens, occurrence, onTimes, onDate, onDates, found, insert, byInstant}
+use Rattle.events.specs.Happenings.{happens, occurrence, onTimes, onDate, onDates, found, insert, byInstant, mostInSpan}
 use Rattle.events.specs.declared.Occurrence.{Occurrence}
 use Rattle.events.proofs.Order.{length-sorted}
 use Rattle.events.proofs.Few.{few}
@@ -45,11 +45,8 @@ use Rattle.timeline.specs.Segments.{segments, showing, timelineOf}
 
 -- ---- how many events a span has at most, and a segment of a row: all that a walk shows may be joined, and there are two gaps
 
-abbrev spanMost : ℕ
-spanMost = 1280
-
 abbrev pub rowMost : ℕ
-rowMost = spanMost * (base .points * turns + 2)
+rowMost = mostInSpan * (base .points * turns + 2)
 
 -- ---- each of a list
 
@@ -86,19 +83,19 @@ module _ {A : Type 0} (P : A → Type 0) where
 -- joining adds what its spans count
 module _ {A : Type 0} (B : Body A) (P : ℕ → A → Type 0) (more : (m n : ℕ) (a : A) → m ≤ n → P m a → P n a)
     (merges : (m n : ℕ) (a b : A) → P m a → P n b → P (m + n) (B .merge a b)) where
-  from-bodies : (m n : ℕ) (s : Span A) (ss : List (Span A)) → P m (s .body) → Bodies (P spanMost) ss → m + spanMost * length ss ≤ n
+  from-bodies : (m n : ℕ) (s : Span A) (ss : List (Span A)) → P m (s .body) → Bodies (P mostInSpan) ss → m + mostInSpan * length ss ≤ n
       → Bodies (P n) (joinFrom B s ss)
   unfolding joinFrom
   from-bodies m n s [] p e h = (more m n (s .body) (omega arith) p, tt)
   from-bodies m n s (r ∷ rs) p e h =
       either-way (Bodies (P n)) (joins B s r)
-      (from-bodies (m + spanMost) n (joinedSpan B s r) rs (merges m spanMost (s .body) (r .body) p (e .0)) (e .1) (omega arith))
-      (more m n (s .body) (omega arith) p, from-bodies spanMost n r rs (e .0) (e .1) (omega arith))
+      (from-bodies (m + mostInSpan) n (joinedSpan B s r) rs (merges m mostInSpan (s .body) (r .body) p (e .0)) (e .1) (omega arith))
+      (more m n (s .body) (omega arith) p, from-bodies mostInSpan n r rs (e .0) (e .1) (omega arith))
 
-  joined-bodies : (n : ℕ) (ss : List (Span A)) → Bodies (P spanMost) ss → spanMost * length ss ≤ n → Bodies (P n) (joined B ss)
+  joined-bodies : (n : ℕ) (ss : List (Span A)) → Bodies (P mostInSpan) ss → mostInSpan * length ss ≤ n → Bodies (P n) (joined B ss)
   unfolding joined
   joined-bodies n [] e h = tt
-  joined-bodies n (s ∷ ss) e h = from-bodies spanMost n s ss (e .0) (e .1) (omega arith)
+  joined-bodies n (s ∷ ss) e h = from-bodies mostInSpan n s ss (e .0) (e .1) (omega arith)
 
 -- ---- uncertainties
 
@@ -269,7 +266,7 @@ sorted-used (o ∷ os) e = insert-used o (byInstant os) (e .0) (sorted-used os (
 module _ (first : ℕ) (ats os : List ℕ) (ok : Valid first ats os)
     (g : ℕ → Option Rule) (fits : (d : ℕ) (r : Rule) → g d ≡ some r → RuleFits r)
     (es : List Event) (all : Every EventFits es)
-    (rare : (from to : ℕ) → to ≤ from + (dayNs + mostNs + mostNs) → length (found (zoneOf first ats os) es from to) ≤ spanMost) where
+    (rare : (from to : ℕ) → to ≤ from + (dayNs + mostNs + mostNs) → length (found (zoneOf first ats os) es from to) ≤ mostInSpan) where
   abbrev zone : Zone
   zone = zoneOf first ats os
 
@@ -319,7 +316,7 @@ module _ (first : ℕ) (ats os : List ℕ) (ok : Valid first ats os)
 
   -- what is shown between two boundaries of a date
   body-good : (r : Rule) → RuleFits r → (d : ℕ) (s e : Edge) (p : ℕ) → On d (s .at) → On d (e .at) → p ≤ 7
-      → Shows spanMost (v .body r s p e)
+      → Shows mostInSpan (v .body r s p e)
   body-good r f d s e p a b h =
       let x = uncertain-used first ats os ok (readingAt (s .date) (s .time)) (published (r .uncertainty)) (f .uncertainty) in
       let y = uncertain-used first ats os ok (readingAt (e .date) (e .time)) (published (r .uncertainty)) (f .uncertainty) in
@@ -336,39 +333,39 @@ module _ (first : ℕ) (ats os : List ℕ) (ok : Valid first ats os)
       }
 
   cut-good : (r : Rule) → RuleFits r → (s : Edge) (p : ℕ) (qs : List Point) → On (s .date) (s .at) → p ≤ 7 → EachPoint qs
-      → Bodies (Shows spanMost) (cut v r s p qs)
+      → Bodies (Shows mostInSpan) (cut v r s p qs)
   unfolding cut
   cut-good r f s p [] o h e =
       let end = raised v (s .at) (suc (s .date)) 0 in
       let i = later-on (s .date) (s .at) (v .conv (suc (s .date)) 0) o (conv-by (s .date) (suc (s .date)) 0 (next-date (s .date))) in
-      bodies-keep (Shows spanMost) (s .at) (end .at) (v .body r s p end) [] (body-good r f (s .date) s end p o i h) tt
+      bodies-keep (Shows mostInSpan) (s .at) (end .at) (v .body r s p end) [] (body-good r f (s .date) s end p o i h) tt
   cut-good r f s p (q ∷ qs) o h e =
       let end = raised v (s .at) (s .date) (q .time) in
       let i = later-on (s .date) (s .at) (v .conv (s .date) (q .time)) o (conv-by (s .date) (s .date) (q .time) (on-date (s .date) (q .time))) in
-      bodies-keep (Shows spanMost) (s .at) (end .at) (v .body r s p end) (cut v r end (q .phase) qs) (body-good r f (s .date) s end p o i h)
+      bodies-keep (Shows mostInSpan) (s .at) (end .at) (v .body r s p end) (cut v r end (q .phase) qs) (body-good r f (s .date) s end p o i h)
       (cut-good r f end (q .phase) qs i (e .1) (e .2))
 
-  spans-good : (d : ℕ) → Bodies (Shows spanMost) (spans v d)
+  spans-good : (d : ℕ) → Bodies (Shows mostInSpan) (spans v d)
   unfolding spans
   spans-good d = go (g d) refl
     where
-      points : (r : Rule) → RuleFits r → (ps : List Point) → EachPoint ps → Bodies (Shows spanMost) (ofPoints v r d ps)
+      points : (r : Rule) → RuleFits r → (ps : List Point) → EachPoint ps → Bodies (Shows mostInSpan) (ofPoints v r d ps)
       points r f [] e = tt
       points r f (p ∷ ps) e =
           let begins = first-on d (v .conv d (p .time)) (conv-by d d (p .time) (on-date d (p .time))) in
           cut-good r f (raised v 0 d (p .time)) (p .phase) ps begins (e .1) (e .2)
 
-      go : (o : Option Rule) → g d ≡ o → Bodies (Shows spanMost) (ofRule v d o)
+      go : (o : Option Rule) → g d ≡ o → Bodies (Shows mostInSpan) (ofRule v d o)
       go none e = tt
       go (some r) e = points r (fits d r e) (r .points) (fits d r e .good .each)
 
-  walk-good : (hi n cursor : ℕ) → Bodies (Shows spanMost) (walk v hi n cursor)
+  walk-good : (hi n cursor : ℕ) → Bodies (Shows mostInSpan) (walk v hi n cursor)
   unfolding walk
   walk-good hi zero cursor = tt
   walk-good hi (suc n) cursor =
-      let clipped = bodies-clip (Shows spanMost) cursor hi (spans v (v .reads cursor)) (spans-good (v .reads cursor)) in
-      either-way (Bodies (Shows spanMost)) (ltb cursor next)
-      (bodies-append (Shows spanMost) here (walk v hi n next) clipped (walk-good hi n next)) tt
+      let clipped = bodies-clip (Shows mostInSpan) cursor hi (spans v (v .reads cursor)) (spans-good (v .reads cursor)) in
+      either-way (Bodies (Shows mostInSpan)) (ltb cursor next)
+      (bodies-append (Shows mostInSpan) here (walk v hi n next) clipped (walk-good hi n next)) tt
     where
       here : List (Span (Option Shown))
       here = clip cursor hi (spans v (v .reads cursor))
@@ -396,9 +393,9 @@ module _ (first : ℕ) (ats os : List ℕ) (ok : Valid first ats os)
       let behind : List (Span (Option Shown)) = keep since (w .end) none [] in
       let rest = walked ++ behind in
       let l = walk-length v (λ d r e. fits d r e .good .few) hi turns lo in
-      let good = bodies-append (Shows spanMost) walked behind (walk-good hi turns lo) (bodies-keep (Shows spanMost) since (w .end) none [] tt tt) in
+      let good = bodies-append (Shows mostInSpan) walked behind (walk-good hi turns lo) (bodies-keep (Shows mostInSpan) since (w .end) none [] tt tt) in
       joined-bodies segments Shows shows-more shows-merged rowMost (keep (w .start) until none rest)
-      (bodies-keep (Shows spanMost) (w .start) until none rest tt good)
+      (bodies-keep (Shows mostInSpan) (w .start) until none rest tt good)
       (omega (arith, l, keep-length (w .start) until rest, length-append walked behind, keep-length since (w .end) []))
 
 -- ---- an accepted book
@@ -410,7 +407,7 @@ module _ (s : List ℕ) (b : Bytes s) where
   nanoseconds-fit : (k p : ℕ) → SFits w64 (integer w64 (nanoseconds k) s p)
   nanoseconds-fit k p = meant-fits w64 (turned w64 (number (nanoseconds k) s p)) (omega arith)
 
-  rule-fits : (p : ℕ) → Listed 3 s p → RuleFits (ruleAt s p)
+  rule-fits : (p : ℕ) → ListedRule s p → RuleFits (ruleAt s p)
   rule-fits p l =
       let t = two-bytes (p + text 3 .from) in
       record {
@@ -447,7 +444,7 @@ module _ (s : List ℕ) (b : Bytes s) where
       let n = events-count s e in
       timeline-good o (atsOf rs) (offsetsOf rs) ok (governing (rulesOf rs))
       (λ d r i. let l = governing-listed s e d r i in subst RuleFits (l .is) (rule-fits (l .place) (l .listed))) (eventsOf rs)
-      (subst (Every EventFits) (events-listed s e) (events-fit (places 4 s)))
-      (λ from to h. subst (λ (l : List Event). length (found (v .zone) l from to) ≤ spanMost) (events-listed s e)
-      (few s o (atsOf rs) (offsetsOf rs) (places 4 s) ok (places-listed 4 s e) (omega (arith, n)) from to h))
+      (subst (Every EventFits) (events-listed s e) (events-fit (eventPlaces s)))
+      (λ from to h. subst (λ (l : List Event). length (found (v .zone) l from to) ≤ mostInSpan) (events-listed s e)
+      (few s o (atsOf rs) (offsetsOf rs) (eventPlaces s) ok (places-listed 4 s e) (omega (arith, n)) from to h))
       (v .coverage) w

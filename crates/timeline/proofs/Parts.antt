@@ -18,7 +18,7 @@ use Rattle.spans.specs.Timeline.{Part, turns, walk}
 use Rattle.spans.proofs.Mapping.{onSpans, walk-map, joined-map}
 use Rattle.spans.proofs.Parts.{Phases, in-parts}
 use Rattle.day.specs.Days.{Values, Held, venueBy}
-use Rattle.answer.specs.Forms.{Cover, Form, unknown, encode, encodeAll}
+use Rattle.answer.specs.Forms.{Cover, Form, unknown, encode, encodeAll, gapSize}
 use Rattle.answer.specs.Meaning.{coverOf, gapOf}
 use Rattle.answer.specs.declared.Covered.{Covered}
 use Rattle.answer.proofs.Readback.{encode-length}
@@ -35,30 +35,30 @@ use Rattle.timeline.specs.Private.{gapForms, told}
 
 -- ---- a stretch of which nothing is known
 
-abbrev pub gapSize : ℕ → ℕ → ℕ
-gapSize from to = cond (ltb from to) 37 0
+abbrev pub gapTakes : ℕ → ℕ → ℕ
+gapTakes from to = cond (ltb from to) gapSize 0
 
-pub gap-some : {from to : ℕ} → from < to → gapSize from to ≡ 37
+pub gap-some : {from to : ℕ} → from < to → gapTakes from to ≡ gapSize
 gap-some {from} {to} h = simp (lt-ltb from to h)
 
-pub gap-none : {from to : ℕ} → to ≤ from → gapSize from to ≡ 0
+pub gap-none : {from to : ℕ} → to ≤ from → gapTakes from to ≡ 0
 gap-none {from} {to} h = simp (le-ltb from to h)
 
 module _ (c : Covered) {from to : ℕ} {room : List ℕ} {at : ℕ} where
   -- it is written
-  pub gap-put : {left : List ℕ} {next : ℕ} → from < to → Put room at (encode (unknown (gapOf from to c))) 37 left next
-      → Put room at (encodeAll (gapForms (coverOf c) from to)) (gapSize from to) left next
+  pub gap-put : {left : List ℕ} {next : ℕ} → from < to → Put room at (encode (unknown (gapOf from to c))) gapSize left next
+      → Put room at (encodeAll (gapForms (coverOf c) from to)) (gapTakes from to) left next
   unfolding keep timelineForms
   gap-put h w = let e = lt-ltb from to h in rw (e, ← (one-form (unknown (gapOf from to c)))) w
 
   -- it is empty
-  pub gap-skip : to ≤ from → Put room at (encodeAll (gapForms (coverOf c) from to)) (gapSize from to) room at
+  pub gap-skip : to ≤ from → Put room at (encodeAll (gapForms (coverOf c) from to)) (gapTakes from to) room at
   unfolding keep timelineForms encodeAll
   gap-skip h =
       let e = le-ltb from to h in
       rw e (record { same = sym (wrote-nothing room at); behind = omega arith; many = refl; kept = refl })
 
-pub gap-length : (c : Option Cover) (from to : ℕ) → length (encodeAll (gapForms c from to)) ≡ gapSize from to
+pub gap-length : (c : Option Cover) (from to : ℕ) → length (encodeAll (gapForms c from to)) ≡ gapTakes from to
 unfolding keep timelineForms encodeAll
 gap-length c from to = go (ltb from to)
   where
@@ -68,7 +68,7 @@ gap-length c from to = go (ltb from to)
     form : Form
     form = unknown (record { start = instantNumber from; end = instantNumber to; coverage = c })
 
-    go : (b : Bool) → length (encodeAll (timelineForms c (cond b (gap ∷ []) []))) ≡ cond b 37 0
+    go : (b : Bool) → length (encodeAll (timelineForms c (cond b (gap ∷ []) []))) ≡ cond b gapSize 0
     go true = ap length (sym (one-form form)) ∙ encode-length form tt
     go false = refl
 
@@ -99,7 +99,7 @@ module _ {v : Values} (c : Covered) {start end before lo hi after n : ℕ} (cut 
   inParts = first ++ (middle ++ last)
 
   abbrev pub total : ℕ
-  total = gapSize start before + n + gapSize after end
+  total = gapTakes start before + n + gapTakes after end
 
   in-three : inParts ≡ told v c start end
   in-three = rw (cut .first-to, cut .walk-from, cut .walk-to, cut .last-from)
@@ -122,20 +122,20 @@ module _ {v : Values} (c : Covered) {start end before lo hi after n : ℕ} (cut 
       lent-same (lent-reply (lent-short (encodeAll inParts) room refl (omega (arith, parts-length))) q) refl (ap encodeAll in-three)
 
   -- it is written, each part behind the one before
-  module _ {room now : List ℕ} {place : ℕ} (fits : total ≤ length room) (one : Put room 0 (encodeAll first) (gapSize start before) now place) where
+  module _ {room now : List ℕ} {place : ℕ} (fits : total ≤ length room) (one : Put room 0 (encodeAll first) (gapTakes start before) now place) where
     pub walk-room : place + length (encodeAll middle) ≤ length now
     walk-room = omega (arith, cut .size, one .behind, one .kept)
 
     module _ {now2 : List ℕ} {place2 : ℕ} (two : Put now place (encodeAll middle) (length (encodeAll middle)) now2 place2) where
-      pub last-room : place2 + gapSize after end ≤ length now2
+      pub last-room : place2 + gapTakes after end ≤ length now2
       last-room = omega (arith, cut .size, one .behind, one .kept, two .behind, two .kept)
 
-      pub told-written : {left : List ℕ} {m : ℕ} {r : Reply} → Put now2 place2 (encodeAll last) (gapSize after end) left m
+      pub told-written : {left : List ℕ} {m : ℕ} {r : Reply} → Put now2 place2 (encodeAll last) (gapTakes after end) left m
           → r ≡ record { number = 0; length = m } → Lent 0 (encodeAll (told v c start end)) room left r
       told-written three q =
           let long = length (encodeAll middle) in
-          let rest = also (long + gapSize after end) two three refl (omega (arith, cut .size, one .behind, one .kept)) in
-          let w = also (gapSize start before + (long + gapSize after end)) one rest refl (omega (arith, cut .size)) in
+          let rest = also (long + gapTakes after end) two three refl (omega (arith, cut .size, one .behind, one .kept)) in
+          let w = also (gapTakes start before + (long + gapTakes after end)) one rest refl (omega (arith, cut .size)) in
           let all = w .same ∙ ap (wrote room 0) (sym parts-encoded) in
           lent-same
           (lent-reply (lent-written (encodeAll inParts) room refl (omega (arith, parts-length)) all (omega (arith, w .behind, cut .size, parts-length))) q)

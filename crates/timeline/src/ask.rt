@@ -6,7 +6,7 @@ ghost use mathlib.Core.Option.{none};
 ghost use lib.Dec.{ltb};
 ghost use Rattle.wire.specs.Fields.{Inside, Put};
 ghost use Rattle.venue.specs.Filled.{Filled, Ready};
-ghost use Rattle.answer.specs.Forms.{encodeAll};
+ghost use Rattle.answer.specs.Forms.{encodeAll, gapSize};
 ghost use Rattle.day.specs.Meaning.{valuesAt};
 ghost use Rattle.answer.specs.Meaning.{coverOf};
 ghost use Rattle.answer.specs.declared.Covered.the-variants.{Between};
@@ -15,11 +15,8 @@ ghost use Rattle.query.specs.Judging.{windowNumber};
 ghost use Rattle.timeline.specs.Asking.{windowAnswer};
 ghost use Rattle.timeline.specs.Private.{gapForms, told};
 use answer::Covered;
-use answer::GAP_BYTES;
+use answer::GAP_SIZE;
 use answer::put_gap;
-use book::MOST_EVENTS;
-use book::MOST_RULES;
-use book::MOST_TRANSITIONS;
 use joining::walk_size;
 use lend::NO_ROOM;
 use lend::Reply;
@@ -28,6 +25,9 @@ use lend::refused;
 use passes::put_walk;
 use query::Judged;
 use query::judged_window;
+use records::MOST_EVENTS;
+use records::MOST_RULES;
+use records::MOST_TRANSITIONS;
 use spans::earlier;
 use spans::later;
 use venue::Header;
@@ -37,15 +37,15 @@ use zone::Instant;
 
 // How many bytes a stretch takes of which nothing is known.
 fn gap_size(from: Instant, to: Instant) -> usize
-    ensures { λ r. ⌜ (r ≡ cond (ltb (from .0) (to .0)) 37 0) × (r ≤ 37) ⌝ }
+    ensures { λ r. ⌜ (r ≡ cond (ltb (from .0) (to .0)) gapSize 0) × (r ≤ gapSize) ⌝ }
 {
-    if from.0 < to.0 { GAP_BYTES } else { 0 }
+    if from.0 < to.0 { GAP_SIZE } else { 0 }
 }
 
 // Writes a stretch of which nothing is known, unless it is empty. Answers the place behind it.
 fn put_unknown(out: &mut [u8], at: usize, from: Instant, to: Instant, c: Covered) -> usize
-    requires { ⌜ Inside at (cond (ltb (from .0) (to .0)) 37 0) (now out) ⌝ }
-    ensures { λ r. ⌜ Put (now (out .entry)) at (encodeAll (gapForms (coverOf c) (from .0) (to .0))) (cond (ltb (from .0) (to .0)) 37 0) (now (out .exit)) r ⌝ }
+    requires { ⌜ Inside at (cond (ltb (from .0) (to .0)) gapSize 0) (now out) ⌝ }
+    ensures { λ r. ⌜ Put (now (out .entry)) at (encodeAll (gapForms (coverOf c) (from .0) (to .0))) (cond (ltb (from .0) (to .0)) gapSize 0) (now (out .exit)) r ⌝ }
 {
     if from.0 < to.0 {
         return put_gap(out, at, from, to, c);
@@ -58,7 +58,7 @@ fn tell_empty(start: Instant, end: Instant, out: &mut [u8]) -> Reply
     requires { ⌜ start .0 < end .0 ⌝ }
     ensures { λ r. ⌜ Lent 0 (encodeAll (gapForms none (start .0) (end .0))) (now (out .entry)) (now (out .exit)) r ⌝ }
 {
-    if out.len() < GAP_BYTES {
+    if out.len() < GAP_SIZE {
         return refused(NO_ROOM);
     }
     answered(put_unknown(out, 0, start, end, Covered::Nothing))

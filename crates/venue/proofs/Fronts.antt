@@ -12,7 +12,8 @@ use Rattle.wire.specs.Fields.{wrote}
 use Rattle.wire.proofs.Writing.{wrote-length}
 use Rattle.records.specs.Limits.{base}
 use Rattle.records.specs.Book.{refusal, records}
-use Rattle.venue.specs.Opening.{atsOf, offsetsOf, places, opened, stored}
+use Rattle.records.specs.Layout.{transitionKind, ruleKind, eventKind}
+use Rattle.venue.specs.Opening.{atsOf, offsetsOf, opened, stored, rulePlaces, eventPlaces}
 use Rattle.venue.specs.Filled.{Filled, Ready}
 use Rattle.venue.specs.declared.opened.Header.{Header}
 use Rattle.venue.specs.declared.opened.Opened.{Opened}
@@ -22,13 +23,13 @@ use Rattle.venue.proofs.Known.{Known, counts}
 
 -- ---- what was stored is what a reader may rely on
 
-pub ready : {s : List ℕ} {h : Header} → Known s h → Ready s (h .first) (atsOf (records s)) (offsetsOf (records s)) (places 3 s) (places 4 s)
+pub ready : {s : List ℕ} {h : Header} → Known s h → Ready s (h .first) (atsOf (records s)) (offsetsOf (records s)) (rulePlaces s) (eventPlaces s)
 ready {s} {h} k =
     let first = ap (λ (x : Header). x .first) (k .header) in
     record {
       zone = rw first (zone-valid s (k .accepted) (k .covered) (k .is));
-      rules-listed = places-listed 3 s (k .accepted);
-      events-listed = places-listed 4 s (k .accepted);
+      rules-listed = places-listed ruleKind s (k .accepted);
+      events-listed = places-listed eventKind s (k .accepted);
       few = let e = events-count s (k .accepted) in omega (arith, e .0, e .1);
     }
 
@@ -53,18 +54,18 @@ module _ {s ats offsets rules events : List ℕ} {o : Opened} (w : Filled s o at
   pub offsets-front : take (h .transitions) offsets ≡ offsetsOf (records s)
   offsets-front = stored-front s (w .old-offsets) _ offsets _ (k .accepted) (w .offsets-are) (counts k .0 ∙ sym (offsets-many (records s)))
 
-  pub rules-front : take (h .rules) rules ≡ places 3 s
+  pub rules-front : take (h .rules) rules ≡ rulePlaces s
   rules-front = stored-front s (w .old-rules) _ rules _ (k .accepted) (w .rules-are) (counts k .1)
 
-  pub events-front : take (h .events) events ≡ places 4 s
+  pub events-front : take (h .events) events ≡ eventPlaces s
   events-front = stored-front s (w .old-events) _ events _ (k .accepted) (w .events-are) (counts k .2)
 
   -- they are no longer than the arrays
   pub ats-in : h .transitions ≤ length ats
-  ats-in = omega (arith, counts k .0, few-records 2 s (k .accepted), w .ats-long)
+  ats-in = omega (arith, counts k .0, few-records transitionKind s (k .accepted), w .ats-long)
 
   pub offsets-in : h .transitions ≤ length offsets
-  offsets-in = omega (arith, counts k .0, few-records 2 s (k .accepted), w .offsets-long)
+  offsets-in = omega (arith, counts k .0, few-records transitionKind s (k .accepted), w .offsets-long)
 
   pub rules-in : h .rules ≤ length rules
   rules-in = let c = rules-count s (k .accepted) in omega (arith, counts k .1, c .0, c .1, w .rules-long)
@@ -89,16 +90,16 @@ stored-length s old vs h e = ap length e ∙ go (ℕ-discrete (refusal base s) 0
     go (no z) = ap (λ (b : Bool). length (cond b (wrote old 0 vs) old)) (ne-eqb (refusal base s) 0 z)
 
 module _ (s : List ℕ) (z : refusal base s ≡ 0) where
-  pub ats-fit : length (atsOf (records s)) ≤ 640
-  ats-fit = omega (arith, ats-many (records s), few-records 2 s z)
+  pub ats-fit : length (atsOf (records s)) ≤ base .transitions
+  ats-fit = omega (arith, ats-many (records s), few-records transitionKind s z)
 
-  pub offsets-fit : length (offsetsOf (records s)) ≤ 640
-  offsets-fit = omega (arith, offsets-many (records s), few-records 2 s z)
+  pub offsets-fit : length (offsetsOf (records s)) ≤ base .transitions
+  offsets-fit = omega (arith, offsets-many (records s), few-records transitionKind s z)
 
-  pub rules-fit : length (places 3 s) ≤ 256
+  pub rules-fit : length (rulePlaces s) ≤ base .rules
   rules-fit = let c = rules-count s z in omega (arith, c .0, c .1)
 
-  pub events-fit : length (places 4 s) ≤ 32
+  pub events-fit : length (eventPlaces s) ≤ base .events
   events-fit = let c = events-count s z in omega (arith, c .0, c .1)
 
 -- what opening answers and stores, in arrays long enough for any book
@@ -106,8 +107,8 @@ pub filled : (s ats offsets rules events : List ℕ) {ats′ offsets′ rules′
     → (o ≡ opened s)
     × (ats′ ≡ stored s ats (atsOf (records s)))
     × (offsets′ ≡ stored s offsets (offsetsOf (records s)))
-    × (rules′ ≡ stored s rules (places 3 s))
-    × (events′ ≡ stored s events (places 4 s))
+    × (rules′ ≡ stored s rules (rulePlaces s))
+    × (events′ ≡ stored s events (eventPlaces s))
     → base .transitions ≤ length ats → base .transitions ≤ length offsets → base .rules ≤ length rules → base .events ≤ length events
     → Filled s o ats′ offsets′ rules′ events′
 filled s ats offsets rules events e a b c d =

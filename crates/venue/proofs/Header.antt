@@ -14,7 +14,7 @@ use Rattle.wire.proofs.Signs.{since-meant}
 use Rattle.wire.proofs.Writing.{wrote-nothing}
 use Rattle.calendar.specs.Answers.{zeroDay}
 use Rattle.zone.specs.Units.{secondNs, dayNs}
-use Rattle.records.specs.Layout.{number, coverageStart, coverageEnd, coverageOffset}
+use Rattle.records.specs.Layout.{number, coverageStart, coverageEnd, coverageOffset, coverageKind}
 use Rattle.records.specs.Limits.{base}
 use Rattle.records.specs.Records.{Record, coverage, coverageAt, recordAt, kindOf}
 use Rattle.records.specs.Book.{inside, instants, offsets, kindAt, nextAt, badFields, refusal, recordsFrom, records}
@@ -82,12 +82,12 @@ pub record Head (s : List ℕ) : Type 0 where
 
 module _ (s : List ℕ) (e : refusal base s ≡ 0) (ne : length s ≡ 0 → ⊥) where
   first-by : (turns : ℕ) → Ahead s 0 turns []
-      → Framed s 0 × (kindAt s 0 ≡ 1) × (badFields base (recordAt s 0) ≡ false) × (coverageOf (recordsFrom s turns 0) ≡ some (coverageAt s 0))
+      → Framed s 0 × (kindAt s 0 ≡ coverageKind) × (badFields base (recordAt s 0) ≡ false) × (coverageOf (recordsFrom s turns 0) ≡ some (coverageAt s 0))
   first-by zero a = absurd (no-turns a (omega arith))
   first-by (suc g) a =
       let h : 0 < length s = omega arith in
       let n = ahead-next a h in
-      let k : kindAt s 0 ≡ 1 = sym (kind-here s 0 (n .frame)) ∙ eqb-true (kindOf (recordAt s 0)) 1 (not-false _ (n .passes .headed)) in (
+      let k : kindAt s 0 ≡ coverageKind = sym (kind-here s 0 (n .frame)) ∙ eqb-true (kindOf (recordAt s 0)) 1 (not-false _ (n .passes .headed)) in (
         n .frame,
         k,
         or-false (badFields base (recordAt s 0)) _ (n .passes .fields) .0,

@@ -15,11 +15,11 @@ use Rattle.wire.proofs.Signs.{since-meant}
 use Rattle.calendar.specs.Answers.{zeroDay}
 use Rattle.zone.specs.Units.{dayNs, instantNumber}
 use Rattle.zone.proofs.Domain.{instantZero, instant-placed}
-use Rattle.records.specs.Layout.{number, coverageStart, coverageEnd}
+use Rattle.records.specs.Layout.{number, coverageStart, coverageEnd, transitionKind}
 use Rattle.records.specs.Limits.{base}
 use Rattle.records.specs.Records.{Coverage, coverageAt}
 use Rattle.records.specs.Book.{many, refusal, records}
-use Rattle.venue.specs.Opening.{instantOf, coverageOf, places, headerOf, venueOf, opened}
+use Rattle.venue.specs.Opening.{instantOf, coverageOf, headerOf, venueOf, opened, rulePlaces, eventPlaces}
 use Rattle.venue.specs.declared.opened.Header.{Header}
 use Rattle.venue.specs.declared.opened.Opened.{Opened}
 use Rattle.venue.specs.declared.opened.Opened.the-variants.{Refused, Empty, Venue}
@@ -107,7 +107,7 @@ module _ {s : List ℕ} {h : Header} (k : Known s h) where
   c = k .covered
 
   -- the counts of the header
-  pub counts : (h .transitions ≡ many 2 (records s)) × (h .rules ≡ length (places 3 s)) × (h .events ≡ length (places 4 s))
+  pub counts : (h .transitions ≡ many transitionKind (records s)) × (h .rules ≡ length (rulePlaces s)) × (h .events ≡ length (eventPlaces s))
   counts = (
     ap (λ (x : Header). x .transitions) (k .header),
     ap (λ (x : Header). x .rules) (k .header) ∙ sym (rules-count s (k .accepted) .0),

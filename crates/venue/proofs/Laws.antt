@@ -13,16 +13,17 @@ use Rattle.records.specs.Records.{Coverage, Record, coverageAt, ruleAt, eventAt
 use Rattle.records.specs.Book.{kindAt, nextAt, many, refusal, recordsFrom, records}
 use Rattle.records.specs.Frame.{Framed}
 use Rattle.records.proofs.Frames.{Kind, one, two, three, four, kind-of, is-one, is-two, is-three, is-four}
-use Rattle.venue.specs.Opening.{offsetOf, coverageOf, rulesOf, eventsOf, atsOf, offsetsOf, placesFrom, places}
+use Rattle.records.specs.Layout.{ruleKind, eventKind}
+use Rattle.venue.specs.Opening.{offsetOf, coverageOf, rulesOf, eventsOf, atsOf, offsetsOf, placesFrom, places, rulePlaces, eventPlaces}
 use Rattle.venue.proofs.Passing.{Ahead, Next, ahead-start, by-records, no-records, no-places, one-record, one-place, no-place, places-many, few-records}
-use Rattle.venue.specs.Reading.{Listed, AllListed, GoodCoverage, GoodRule, GoodEvent}
+use Rattle.venue.specs.Reading.{Listed, AllListed, GoodCoverage, GoodRule, GoodEvent, ListedRule, ListedEvent}
 use Rattle.venue.proofs.Listing.{day-value, rule-fields, rule-each, rule-rises, event-fields, event-each}
 use Rattle.venue.proofs.Header.{head}
 use Rattle.venue.proofs.Changes.{Chain, covers-good, changes-valid}
 
 -- ---- a rule or event that is listed is good
 
-pub good-rule : (s : List ℕ) (p : ℕ) → Listed 3 s p → GoodRule (ruleAt s p)
+pub good-rule : (s : List ℕ) (p : ℕ) → ListedRule s p → GoodRule (ruleAt s p)
 good-rule s p l =
     let f = rule-fields l in
     let d = f .dates-in in
@@ -39,7 +40,7 @@ good-rule s p l =
       few = f .few;
     }
 
-pub good-event : (s : List ℕ) (p : ℕ) → Listed 4 s p → GoodEvent (eventAt s p)
+pub good-event : (s : List ℕ) (p : ℕ) → ListedEvent s p → GoodEvent (eventAt s p)
 good-event s p l =
     let f = event-fields l in
     let d = f .dates-in in
@@ -123,11 +124,11 @@ module _ (s : List ℕ) (at : ℕ) (rs : List Record) (f : Framed s at) where
   abbrev kind-here-is : Kind (kindAt s at)
   kind-here-is = kind-of s at (kindAt s at) f refl
 
-  one-rule : kindAt s at ≡ 3 → rulesOf (recordAt s at ∷ rs) ≡ ruleAt s at ∷ rulesOf rs
+  one-rule : kindAt s at ≡ ruleKind → rulesOf (recordAt s at ∷ rs) ≡ ruleAt s at ∷ rulesOf rs
   unfolding rulesOf
   one-rule e = rw (is-three s at (kindAt s at) f refl e)
 
-  no-rule : (kindAt s at ≡ 3 → ⊥) → rulesOf (recordAt s at ∷ rs) ≡ rulesOf rs
+  no-rule : (kindAt s at ≡ ruleKind → ⊥) → rulesOf (recordAt s at ∷ rs) ≡ rulesOf rs
   unfolding rulesOf
   no-rule n = go kind-here-is
     where
@@ -137,11 +138,11 @@ module _ (s : List ℕ) (at : ℕ) (rs : List Record) (f : Framed s at) where
       go (three i) = absurd (n i)
       go (four i) = rw (is-four s at (kindAt s at) f refl i)
 
-  one-event : kindAt s at ≡ 4 → eventsOf (recordAt s at ∷ rs) ≡ eventAt s at ∷ eventsOf rs
+  one-event : kindAt s at ≡ eventKind → eventsOf (recordAt s at ∷ rs) ≡ eventAt s at ∷ eventsOf rs
   unfolding eventsOf
   one-event e = rw (is-four s at (kindAt s at) f refl e)
 
-  no-event : (kindAt s at ≡ 4 → ⊥) → eventsOf (recordAt s at ∷ rs) ≡ eventsOf rs
+  no-event : (kindAt s at ≡ eventKind → ⊥) → eventsOf (recordAt s at ∷ rs) ≡ eventsOf rs
   unfolding eventsOf
   no-event n = go kind-here-is
     where
@@ -151,23 +152,23 @@ module _ (s : List ℕ) (at : ℕ) (rs : List Record) (f : Framed s at) where
       go (three i) = rw (is-three s at (kindAt s at) f refl i)
       go (four i) = absurd (n i)
 
-pub rules-listed : (s : List ℕ) → refusal base s ≡ 0 → map (ruleAt s) (places 3 s) ≡ rulesOf (records s)
+pub rules-listed : (s : List ℕ) → refusal base s ≡ 0 → map (ruleAt s) (rulePlaces s) ≡ rulesOf (records s)
 unfolding records rulesOf
-rules-listed s e = in-order 3 s (ruleAt s) rulesOf refl (one-rule s) (no-rule s) (length s) (ahead-start s e)
+rules-listed s e = in-order ruleKind s (ruleAt s) rulesOf refl (one-rule s) (no-rule s) (length s) (ahead-start s e)
 
-pub events-listed : (s : List ℕ) → refusal base s ≡ 0 → map (eventAt s) (places 4 s) ≡ eventsOf (records s)
+pub events-listed : (s : List ℕ) → refusal base s ≡ 0 → map (eventAt s) (eventPlaces s) ≡ eventsOf (records s)
 unfolding records eventsOf
-events-listed s e = in-order 4 s (eventAt s) eventsOf refl (one-event s) (no-event s) (length s) (ahead-start s e)
+events-listed s e = in-order eventKind s (eventAt s) eventsOf refl (one-event s) (no-event s) (length s) (ahead-start s e)
 
 -- ---- how many there are
 
-pub rules-count : (s : List ℕ) → refusal base s ≡ 0 → (length (places 3 s) ≡ many 3 (records s)) × (many 3 (records s) ≤ base .rules)
+pub rules-count : (s : List ℕ) → refusal base s ≡ 0 → (length (rulePlaces s) ≡ many ruleKind (records s)) × (many ruleKind (records s) ≤ base .rules)
 unfolding records
-rules-count s e = (places-many 3 (length s) (ahead-start s e), few-records 3 s e)
+rules-count s e = (places-many ruleKind (length s) (ahead-start s e), few-records ruleKind s e)
 
-pub events-count : (s : List ℕ) → refusal base s ≡ 0 → (length (places 4 s) ≡ many 4 (records s)) × (many 4 (records s) ≤ base .events)
+pub events-count : (s : List ℕ) → refusal base s ≡ 0 → (length (eventPlaces s) ≡ many eventKind (records s)) × (many eventKind (records s) ≤ base .events)
 unfolding records
-events-count s e = (places-many 4 (length s) (ahead-start s e), few-records 4 s e)
+events-count s e = (places-many eventKind (length s) (ahead-start s e), few-records eventKind s e)
 
 -- ---- the header and the clock changes
 

@@ -17,7 +17,7 @@ use Rattle.wire.proofs.Signs.{since-meant, order-lt}
 use Rattle.calendar.specs.Answers.{firstDay, lastDay}
 use Rattle.zone.specs.Units.{dayNs}
 use Rattle.zone.specs.declared.Uncertainty.the-variants.{Exact, PublishedGranularity, PublishedBound, ProcessStart}
-use Rattle.records.specs.Layout.{number, tag, nanoseconds, text, count, time, phase, step, dayFirst, dayLast}
+use Rattle.records.specs.Layout.{number, tag, nanoseconds, text, count, time, phase, step, dayFirst, dayLast, ruleKind, eventKind}
 use Rattle.records.specs.Limits.{base}
 use Rattle.records.specs.Records.{Published, Point, rule, event, ruleAt, eventAt, publishedAt, pointsAt, timesAt, recordAt}
 use Rattle.records.specs.Book.{inside, days, widths, any, badDays, badUncertainty, badRule, badTime, badPoint, badFields, outside, late, fallsFrom, falls, falling, lateStart, reversed}
@@ -25,7 +25,7 @@ use Rattle.records.proofs.Tests.{or-false, inside-range}
 use Rattle.records.proofs.Frames.{is-three, is-four, room3, room4}
 use Rattle.venue.specs.Opening.{dayOf}
 use Rattle.book.proofs.Judging.{points-length, times-length}
-use Rattle.venue.specs.Reading.{Listed, published, midnight, Rising, FromMidnight, EachPoint, EachTime}
+use Rattle.venue.specs.Reading.{Listed, published, midnight, Rising, FromMidnight, EachPoint, EachTime, ListedRule, ListedEvent}
 
 -- ---- dates, as the fields place them
 
@@ -124,17 +124,17 @@ time-of (t ∷ ts) (suc i) e h = time-of ts i (e .1) (le-of-suc-le-suc h)
 
 -- where the i-th of n stands
 point-at : (s : List ℕ) (at n i : ℕ) → i < n
-    → getD (pointsAt s at n) i midnight ≡ record { time = number (time 3) s (at + 9 * i); phase = number (phase 3) s (at + 9 * i) }
+    → getD (pointsAt s at n) i midnight ≡ record { time = number (time ruleKind) s (at + 9 * i); phase = number (phase ruleKind) s (at + 9 * i) }
 unfolding pointsAt
 point-at s at zero i h = absurd (omega arith)
 point-at s at (suc n) zero h = let z : at + 9 * 0 ≡ at = omega arith in rw z
-point-at s at (suc n) (suc i) h = let z : at + step 3 + 9 * i ≡ at + 9 * suc i = omega arith in rw⁻¹ z (point-at s (at + step 3) n i (omega arith))
+point-at s at (suc n) (suc i) h = let z : at + step ruleKind + 9 * i ≡ at + 9 * suc i = omega arith in rw⁻¹ z (point-at s (at + step ruleKind) n i (omega arith))
 
-time-at : (s : List ℕ) (at n i : ℕ) → i < n → getD (timesAt s at n) i 0 ≡ number (time 4) s (at + 8 * i)
+time-at : (s : List ℕ) (at n i : ℕ) → i < n → getD (timesAt s at n) i 0 ≡ number (time eventKind) s (at + 8 * i)
 unfolding timesAt
 time-at s at zero i h = absurd (omega arith)
 time-at s at (suc n) zero h = let z : at + 8 * 0 ≡ at = omega arith in rw z
-time-at s at (suc n) (suc i) h = let z : at + step 4 + 8 * i ≡ at + 8 * suc i = omega arith in rw⁻¹ z (time-at s (at + step 4) n i (omega arith))
+time-at s at (suc n) (suc i) h = let z : at + step eventKind + 8 * i ≡ at + 8 * suc i = omega arith in rw⁻¹ z (time-at s (at + step eventKind) n i (omega arith))
 
 -- ---- a listed rule
 
@@ -142,14 +142,14 @@ pub record RuleFields (s : List ℕ) (p : ℕ) : Type 0 where
   pub dates-in : Dates (turned w32 (number dayFirst s p)) (turned w32 (number dayLast s p))
   pub code : ruleAt s p .code ≤ 3
   pub mask : ruleAt s p .mask ≤ 127
-  pub width : half w64 ≤ turned w64 (number (nanoseconds 3) s p)
+  pub width : half w64 ≤ turned w64 (number (nanoseconds ruleKind) s p)
   pub few : length (ruleAt s p .points) ≤ base .points
 
-module _ {s : List ℕ} {p : ℕ} (l : Listed 3 s p) where
+module _ {s : List ℕ} {p : ℕ} (l : ListedRule s p) where
   is-rule : recordAt s p ≡ rule (ruleAt s p)
   is-rule = is-three s p 3 (l .frame) (sym (l .kind)) refl
 
-  pub rule-room : p + 32 + 9 * number (count 3) s p ≤ length s
+  pub rule-room : p + time ruleKind .from + step ruleKind * number (count ruleKind) s p ≤ length s
   rule-room = room3 s p 3 (l .frame) (sym (l .kind)) refl
 
   abbrev rule-tests : (badFields base (rule (ruleAt s p)) ≡ false) × (any badPoint (ruleAt s p .points) ≡ false)
@@ -169,7 +169,7 @@ module _ {s : List ℕ} {p : ℕ} (l : Listed 3 s p) where
         dates-in = dates (turned w32 (number dayFirst s p)) (turned w32 (number dayLast s p)) (d .0) (ap reversed (sym is-rule) ∙ l .forward);
         code = ltb-false 3 (r .code) (d .1);
         mask = ltb-false 127 (r .mask) (c .1);
-        width = width-low (r .uncertainty .tag) (turned w64 (number (nanoseconds 3) s p)) (r .uncertainty .text) (e .1);
+        width = width-low (r .uncertainty .tag) (turned w64 (number (nanoseconds ruleKind) s p)) (r .uncertainty .text) (e .1);
         few = ltb-false (base .points) (length (r .points)) (a .1);
       }
 
@@ -180,29 +180,29 @@ module _ {s : List ℕ} {p : ℕ} (l : Listed 3 s p) where
   rule-rises = from-midnight (ruleAt s p .points) (ap lateStart (sym is-rule) ∙ l .prompt) (ap falling (sym is-rule) ∙ l .rising)
 
   -- how many points, and the i-th, as they are read
-  pub points-read : {r : ℕ} → r ≡ number (count 3) s p → (r ≡ length (ruleAt s p .points)) × (1 ≤ r) × (r ≤ base .points)
+  pub points-read : {r : ℕ} → r ≡ number (count ruleKind) s p → (r ≡ length (ruleAt s p .points)) × (1 ≤ r) × (r ≤ base .points)
   points-read {r} e =
-      let n = points-length s p (number (count 3) s p) in
+      let n = points-length s p (number (count ruleKind) s p) in
       let low = some-point (ruleAt s p .points) rule-rises in
       let high = rule-fields .few in
       (omega arith, omega arith, omega arith)
 
   module _ {i : ℕ} (h : i < length (ruleAt s p .points)) where
-    point-below : i < number (count 3) s p
-    point-below = let n = points-length s p (number (count 3) s p) in omega arith
+    point-below : i < number (count ruleKind) s p
+    point-below = let n = points-length s p (number (count ruleKind) s p) in omega arith
 
     pub point-room : p + 9 * i + 41 ≤ length s
     point-room = let b = point-below in omega (arith, rule-room)
 
-    abbrev here : getD (ruleAt s p .points) i midnight ≡ record { time = number (time 3) s (p + 9 * i); phase = number (phase 3) s (p + 9 * i) }
-    here = point-at s p (number (count 3) s p) i point-below
+    abbrev here : getD (ruleAt s p .points) i midnight ≡ record { time = number (time ruleKind) s (p + 9 * i); phase = number (phase ruleKind) s (p + 9 * i) }
+    here = point-at s p (number (count ruleKind) s p) i point-below
 
-    pub time-read : {r : ℕ} → r ≡ number (time 3) s (p + 9 * i) → (r ≡ getD (ruleAt s p .points) i midnight .time) × (r < dayNs)
+    pub time-read : {r : ℕ} → r ≡ number (time ruleKind) s (p + 9 * i) → (r ≡ getD (ruleAt s p .points) i midnight .time) × (r < dayNs)
     time-read {r} e = let z = e ∙ sym (ap (λ (q : Point). q .time) here) in (z, rw z (point-of (ruleAt s p .points) i rule-each h .0))
 
-    pub phase-read : {r : ℕ} → r ≡ field 1 s (p + 9 * i + time 3 .from + 8) → (r ≡ getD (ruleAt s p .points) i midnight .phase) × (r ≤ 7)
+    pub phase-read : {r : ℕ} → r ≡ field 1 s (p + 9 * i + time ruleKind .from + 8) → (r ≡ getD (ruleAt s p .points) i midnight .phase) × (r ≤ 7)
     phase-read {r} e =
-        let q : p + 9 * i + time 3 .from + 8 ≡ p + 9 * i + phase 3 .from = omega arith in
+        let q : p + 9 * i + time ruleKind .from + 8 ≡ p + 9 * i + phase ruleKind .from = omega arith in
         let z = e ∙ ap (field 1 s) q ∙ sym (ap (λ (x : Point). x .phase) here) in
         (z, rw z (point-of (ruleAt s p .points) i rule-each h .1))
 
@@ -210,14 +210,14 @@ module _ {s : List ℕ} {p : ℕ} (l : Listed 3 s p) where
 
 pub record EventFields (s : List ℕ) (p : ℕ) : Type 0 where
   pub dates-in : Dates (turned w32 (number dayFirst s p)) (turned w32 (number dayLast s p))
-  pub width : half w64 ≤ turned w64 (number (nanoseconds 4) s p)
+  pub width : half w64 ≤ turned w64 (number (nanoseconds eventKind) s p)
   pub few : length (eventAt s p .times) ≤ base .times
 
-module _ {s : List ℕ} {p : ℕ} (l : Listed 4 s p) where
+module _ {s : List ℕ} {p : ℕ} (l : ListedEvent s p) where
   is-event : recordAt s p ≡ event (eventAt s p)
   is-event = is-four s p 4 (l .frame) (sym (l .kind)) refl
 
-  pub event-room : p + 28 + 8 * number (count 4) s p ≤ length s
+  pub event-room : p + time eventKind .from + step eventKind * number (count eventKind) s p ≤ length s
   event-room = room4 s p 4 (l .frame) (sym (l .kind)) refl
 
   abbrev event-tests : (badFields base (event (eventAt s p)) ≡ false) × (any badTime (eventAt s p .times) ≡ false)
@@ -231,29 +231,29 @@ module _ {s : List ℕ} {p : ℕ} (l : Listed 4 s p) where
       let b = or-false (badDays (v .first) (v .last)) (badUncertainty (v .uncertainty)) (a .0) in
       record {
         dates-in = dates (turned w32 (number dayFirst s p)) (turned w32 (number dayLast s p)) (b .0) (ap reversed (sym is-event) ∙ l .forward);
-        width = width-low (v .uncertainty .tag) (turned w64 (number (nanoseconds 4) s p)) (v .uncertainty .text) (b .1);
+        width = width-low (v .uncertainty .tag) (turned w64 (number (nanoseconds eventKind) s p)) (v .uncertainty .text) (b .1);
         few = ltb-false (base .times) (length (v .times)) (a .1);
       }
 
   pub event-each : EachTime (eventAt s p .times)
   event-each = each-time (eventAt s p .times) (event-tests .1)
 
-  pub times-read : {r : ℕ} → r ≡ number (count 4) s p → (r ≡ length (eventAt s p .times)) × (r ≤ base .times)
+  pub times-read : {r : ℕ} → r ≡ number (count eventKind) s p → (r ≡ length (eventAt s p .times)) × (r ≤ base .times)
   times-read {r} e =
-      let n = times-length s p (number (count 4) s p) in
+      let n = times-length s p (number (count eventKind) s p) in
       let high = event-fields .few in
       (omega arith, omega arith)
 
   module _ {i : ℕ} (h : i < length (eventAt s p .times)) where
-    time-below : i < number (count 4) s p
-    time-below = let n = times-length s p (number (count 4) s p) in omega arith
+    time-below : i < number (count eventKind) s p
+    time-below = let n = times-length s p (number (count eventKind) s p) in omega arith
 
     pub event-time-room : p + 8 * i + 36 ≤ length s
     event-time-room = let b = time-below in omega (arith, event-room)
 
-    pub event-time-read : {r : ℕ} → r ≡ number (time 4) s (p + 8 * i) → (r ≡ getD (eventAt s p .times) i 0) × (r < dayNs)
+    pub event-time-read : {r : ℕ} → r ≡ number (time eventKind) s (p + 8 * i) → (r ≡ getD (eventAt s p .times) i 0) × (r < dayNs)
     event-time-read {r} e =
-        let z = e ∙ sym (time-at s p (number (count 4) s p) i time-below) in
+        let z = e ∙ sym (time-at s p (number (count eventKind) s p) i time-below) in
         (z, rw z (time-of (eventAt s p .times) i event-each h))
 
 -- ---- the uncertainty of both
@@ -279,12 +279,12 @@ module _ {k : ℕ} {s : List ℕ} {p q : ℕ} (u : Uncertain k s p) (e : q ≡ t
       ap₂ (λ (i j : ℕ). told i j n) (a ∙ ap (λ (i : ℕ). field 1 s (p + i)) e) (b ∙ ap (λ (i : ℕ). turned w64 (field 8 s i)) nanoseconds-place)
       ∙ ap (λ (i : ℕ). told (number (tag k) s p) (turned w64 (number (nanoseconds k) s p)) i) (c ∙ ap (field 2 s) text-place)
 
-pub uncertain-at : {k : ℕ} {s : List ℕ} {p : ℕ} → (k ≡ 3) ⊎ (k ≡ 4) → Listed k s p → Uncertain k s p
+pub uncertain-at : {k : ℕ} {s : List ℕ} {p : ℕ} → (k ≡ ruleKind) ⊎ (k ≡ eventKind) → Listed k s p → Uncertain k s p
 uncertain-at {k} {s} {p} (inl i) l =
-    let m : Listed 3 s p = rw i at l in
-    let q : Uncertain 3 s p = record { room = omega (arith, rule-room m); width = rule-fields m .width } in
+    let m : ListedRule s p = rw i at l in
+    let q : Uncertain ruleKind s p = record { room = omega (arith, rule-room m); width = rule-fields m .width } in
     rw i q
 uncertain-at {k} {s} {p} (inr i) l =
-    let m : Listed 4 s p = rw i at l in
-    let q : Uncertain 4 s p = record { room = omega (arith, event-room m); width = event-fields m .width } in
+    let m : ListedEvent s p = rw i at l in
+    let q : Uncertain eventKind s p = record { room = omega (arith, event-room m); width = event-fields m .width } in
     rw i q

@@ -14,7 +14,7 @@ use Rattle.wire.specs.Fields.{wrote}
 use Rattle.wire.specs.Signs.{half, meant, turned}
 use Rattle.wire.proofs.Signs.{since-meant}
 use Rattle.zone.specs.Units.{secondNs}
-use Rattle.records.specs.Layout.{number, transitionInstant, transitionOffset}
+use Rattle.records.specs.Layout.{number, transitionInstant, transitionOffset, transitionKind, ruleKind, eventKind}
 use Rattle.wire.proofs.Writing.{wrote-one, wrote-nothing}
 use Rattle.records.specs.Limits.{base}
 use Rattle.records.specs.Records.{Record, coverage, transition, rule, event, transitionAt, recordAt, kindOf}
@@ -24,7 +24,7 @@ use Rattle.records.specs.Frame.{Framed}
 use Rattle.records.proofs.Frames.{Kind, one, two, three, four, kind-of, framed, is-one, is-two, is-three, is-four}
 use Rattle.records.proofs.Cascade.{passed, Passed, passed-all}
 use Rattle.records.proofs.Following.{many-moved, many-same, many-other, many-room}
-use Rattle.venue.specs.Opening.{secondsInstant, offsetOf, transitionsOf, atsOf, offsetsOf, placesFrom, places}
+use Rattle.venue.specs.Opening.{secondsInstant, offsetOf, transitionsOf, atsOf, offsetsOf, placesFrom, places, rulePlaces, eventPlaces}
 use Rattle.venue.specs.declared.opened.Counts.{Counts}
 use Rattle.venue.specs.Private.{Fitting, countsOf}
 
@@ -163,7 +163,7 @@ unfolding records
 few-records k s e = let h = few-left k (length s) (ahead-start s e) (omega arith) in omega arith
 
 -- as many transitions as records of kind 2
-pub transitions-many : (rs : List Record) → length (transitionsOf rs) ≡ many 2 rs
+pub transitions-many : (rs : List Record) → length (transitionsOf rs) ≡ many transitionKind rs
 unfolding transitionsOf
 transitions-many [] = refl
 transitions-many (coverage c ∷ rs) = transitions-many rs
@@ -234,11 +234,11 @@ module _ (s : List ℕ) (at turns : ℕ) (h : at < length s) (f : Framed s at) w
   abbrev rest : List Record
   rest = recordsFrom s turns (nextAt s at)
 
-  one-change : kindAt s at ≡ 2 → transitionsOf (recordsFrom s (suc turns) at) ≡ transitionAt s at ∷ transitionsOf rest
+  one-change : kindAt s at ≡ transitionKind → transitionsOf (recordsFrom s (suc turns) at) ≡ transitionAt s at ∷ transitionsOf rest
   unfolding transitionsOf
   one-change e = ap transitionsOf (one-record s at turns h) ∙ rw (is-two s at (kindAt s at) f refl e)
 
-  no-change : (kindAt s at ≡ 2 → ⊥) → transitionsOf (recordsFrom s (suc turns) at) ≡ transitionsOf rest
+  no-change : (kindAt s at ≡ transitionKind → ⊥) → transitionsOf (recordsFrom s (suc turns) at) ≡ transitionsOf rest
   unfolding transitionsOf
   no-change n = ap transitionsOf (one-record s at turns h) ∙ go (kind-of s at (kindAt s at) f refl)
     where
@@ -254,7 +254,7 @@ pub record Ranged (s : List ℕ) (at : ℕ) : Type 0 where
   pub at-high : turned w64 (number transitionInstant s at) ≤ half w64 + 7258118400
   pub offset-low : half w32 - 57600 ≤ turned w32 (number transitionOffset s at)
 
-pub ranged : (s : List ℕ) (at : ℕ) (before : List Record) → Framed s at → kindAt s at ≡ 2 → Passed base before (recordAt s at) → Ranged s at
+pub ranged : (s : List ℕ) (at : ℕ) (before : List Record) → Framed s at → kindAt s at ≡ transitionKind → Passed base before (recordAt s at) → Ranged s at
 unfolding badFields meant
 ranged s at before f e p =
     let z : badFields base (transition (transitionAt s at)) ≡ false =
@@ -280,21 +280,21 @@ module _ {s : List ℕ} {at : ℕ} (r : Ranged s at) where
 
 -- n clock changes stand before `at`, and those from there on are still to be stored
 pub record Changing (s ats ats′ offsets offsets′ : List ℕ) (turns at n : ℕ) : Type 0 where
-  pub total : n + many 2 (recordsFrom s turns at) ≡ many 2 (records s)
+  pub total : n + many transitionKind (recordsFrom s turns at) ≡ many transitionKind (records s)
   pub to-ats : Storing ats ats′ n (atsOf (records s)) (atsOf (recordsFrom s turns at))
   pub to-offsets : Storing offsets offsets′ n (offsetsOf (records s)) (offsetsOf (recordsFrom s turns at))
 
-pub ats-many : (rs : List Record) → length (atsOf rs) ≡ many 2 rs
+pub ats-many : (rs : List Record) → length (atsOf rs) ≡ many transitionKind rs
 ats-many rs = length-map (transitionsOf rs) _ ∙ transitions-many rs
 
-pub offsets-many : (rs : List Record) → length (offsetsOf rs) ≡ many 2 rs
+pub offsets-many : (rs : List Record) → length (offsetsOf rs) ≡ many transitionKind rs
 offsets-many rs = length-map (transitionsOf rs) _ ∙ transitions-many rs
 
 change-start : (s ats offsets : List ℕ) → refusal base s ≡ 0 → base .transitions ≤ length ats → base .transitions ≤ length offsets
     → Changing s ats ats offsets offsets (length s) 0 0
 unfolding records
 change-start s ats offsets e l m =
-    let f = few-records 2 s e in
+    let f = few-records transitionKind s e in
     record {
       total = omega arith;
       to-ats = storing-start ats (atsOf (records s)) (omega (arith, ats-many (records s)));
@@ -303,7 +303,7 @@ change-start s ats offsets e l m =
 
 module _ {s ats ats′ offsets offsets′ : List ℕ} {g at n : ℕ} (h : at < length s) (f : Framed s at)
     (p : Changing s ats ats′ offsets offsets′ (suc g) at n) where
-  change-room : kindAt s at ≡ 2 → (n < length ats′) × (n < length offsets′)
+  change-room : kindAt s at ≡ transitionKind → (n < length ats′) × (n < length offsets′)
   change-room e =
       let o = one-many s at g h f 2 e in
       let l = ats-many (recordsFrom s (suc g) at) in
@@ -312,7 +312,7 @@ module _ {s ats ats′ offsets offsets′ : List ℕ} {g at n : ℕ} (h : at < l
       let b = p .to-offsets .fits in
       (omega arith, omega arith)
 
-  change-one : kindAt s at ≡ 2
+  change-one : kindAt s at ≡ transitionKind
       → let t = transitionAt s at in
       Changing s ats (set ats′ n (secondsInstant (t .at))) offsets (set offsets′ n (offsetOf (t .offset))) g (nextAt s at) (n + 1)
   change-one e =
@@ -325,7 +325,7 @@ module _ {s ats ats′ offsets offsets′ : List ℕ} {g at n : ℕ} (h : at < l
         to-offsets = storing-one _ _ (rw z at (p .to-offsets));
       }
 
-  change-none : (kindAt s at ≡ 2 → ⊥) → Changing s ats ats′ offsets offsets′ g (nextAt s at) n
+  change-none : (kindAt s at ≡ transitionKind → ⊥) → Changing s ats ats′ offsets offsets′ g (nextAt s at) n
   change-none e =
       let o = no-many s at g h f 2 e in
       let t = p .total in
@@ -333,11 +333,11 @@ module _ {s ats ats′ offsets offsets′ : List ℕ} {g at n : ℕ} (h : at < l
       record { total = omega arith; to-ats = rw z at (p .to-ats); to-offsets = rw z at (p .to-offsets) }
 
 change-end : {s ats ats′ offsets offsets′ : List ℕ} {turns at n : ℕ} → Changing s ats ats′ offsets offsets′ turns at n → length s ≤ at
-    → (n ≡ many 2 (records s)) × (ats′ ≡ wrote ats 0 (atsOf (records s))) × (offsets′ ≡ wrote offsets 0 (offsetsOf (records s)))
+    → (n ≡ many transitionKind (records s)) × (ats′ ≡ wrote ats 0 (atsOf (records s))) × (offsets′ ≡ wrote offsets 0 (offsetsOf (records s)))
 unfolding transitionsOf
 change-end {s} {ats} {ats′} {offsets} {offsets′} {turns} {at} p h =
     let z = no-records s at turns h in
-    let m = ap (many 2) z in
+    let m = ap (many transitionKind) z in
     let t = p .total in
     (omega arith, storing-end (rw z at (p .to-ats)), storing-end (rw z at (p .to-offsets)))
 
@@ -348,8 +348,8 @@ pub record Passing (s ats ats′ offsets offsets′ rules rules′ events events
   pub before : List Record
   pub ahead : Ahead s at turns before
   pub changing : Changing s ats ats′ offsets offsets′ turns at change
-  pub ruling : Placing 3 s rules rules′ turns at rule
-  pub eventing : Placing 4 s events events′ turns at event
+  pub ruling : Placing ruleKind s rules rules′ turns at rule
+  pub eventing : Placing eventKind s events events′ turns at event
 
 pub pass-start : (s ats offsets rules events : List ℕ) → Fitting s ats offsets rules events
     → Passing s ats ats offsets offsets rules rules events events 0 0 0 0
@@ -359,8 +359,8 @@ pass-start s ats offsets rules events f =
       before = [];
       ahead = ahead-start s (f .accepted);
       changing = change-start s ats offsets (f .accepted) (f .ats-long) (f .offsets-long);
-      ruling = place-start 3 s rules (f .accepted) (f .rules-long);
-      eventing = place-start 4 s events (f .accepted) (f .events-long);
+      ruling = place-start ruleKind s rules (f .accepted) (f .rules-long);
+      eventing = place-start eventKind s events (f .accepted) (f .events-long);
     }
 
 -- what holds where a record stands
@@ -371,13 +371,13 @@ pub record Standing (s ats ats′ offsets offsets′ rules rules′ events event
   pub inside : at < length s
   pub small : length s ≤ base .bytes
   pub changing : Changing s ats ats′ offsets offsets′ (suc turns) at change
-  pub ruling : Placing 3 s rules rules′ (suc turns) at rule
-  pub eventing : Placing 4 s events events′ (suc turns) at event
+  pub ruling : Placing ruleKind s rules rules′ (suc turns) at rule
+  pub eventing : Placing eventKind s events events′ (suc turns) at event
 
 module _ {s ats ats′ offsets offsets′ rules rules′ events events′ : List ℕ} {at change rule event : ℕ} where
   stand-by : (turns : ℕ) {before : List Record} → Ahead s at turns before → at < length s
       → Changing s ats ats′ offsets offsets′ turns at change
-      → Placing 3 s rules rules′ turns at rule → Placing 4 s events events′ turns at event
+      → Placing ruleKind s rules rules′ turns at rule → Placing eventKind s events events′ turns at event
       → Standing s ats ats′ offsets offsets′ rules rules′ events events′ at change rule event
   stand-by zero a h c r e = absurd (no-turns a h)
   stand-by (suc g) a h c r e =
@@ -391,50 +391,50 @@ module _ {s ats ats′ offsets offsets′ rules rules′ events events′ : List
     abbrev pub frame : Framed s at
     frame = p .next .frame
 
-    pub range : kindAt s at ≡ 2 → Ranged s at
+    pub range : kindAt s at ≡ transitionKind → Ranged s at
     range e = ranged s at (p .before) frame e (p .next .passes)
 
-    pub room-change : kindAt s at ≡ 2 → (change < length ats′) × (change < length offsets′)
+    pub room-change : kindAt s at ≡ transitionKind → (change < length ats′) × (change < length offsets′)
     room-change e = change-room (p .inside) frame (p .changing) e
 
-    pub room-rule : kindAt s at ≡ 3 → rule < length rules′
+    pub room-rule : kindAt s at ≡ ruleKind → rule < length rules′
     room-rule e = place-room (p .inside) frame (p .ruling) e
 
-    pub room-event : kindAt s at ≡ 4 → event < length events′
+    pub room-event : kindAt s at ≡ eventKind → event < length events′
     room-event e = place-room (p .inside) frame (p .eventing) e
 
-    skip-change : (kindAt s at ≡ 2 → ⊥) → Changing s ats ats′ offsets offsets′ (p .turns) (nextAt s at) change
+    skip-change : (kindAt s at ≡ transitionKind → ⊥) → Changing s ats ats′ offsets offsets′ (p .turns) (nextAt s at) change
     skip-change = change-none (p .inside) frame (p .changing)
 
-    skip-rule : (kindAt s at ≡ 3 → ⊥) → Placing 3 s rules rules′ (p .turns) (nextAt s at) rule
+    skip-rule : (kindAt s at ≡ ruleKind → ⊥) → Placing ruleKind s rules rules′ (p .turns) (nextAt s at) rule
     skip-rule = place-none (p .inside) frame (p .ruling)
 
-    skip-event : (kindAt s at ≡ 4 → ⊥) → Placing 4 s events events′ (p .turns) (nextAt s at) event
+    skip-event : (kindAt s at ≡ eventKind → ⊥) → Placing eventKind s events events′ (p .turns) (nextAt s at) event
     skip-event = place-none (p .inside) frame (p .eventing)
 
     -- behind a record, by what was stored of it
     module _ {next : ℕ} (to : next ≡ nextAt s at) where
       pass : {ats″ offsets″ rules″ events″ : List ℕ} {c r e : ℕ} → Changing s ats ats″ offsets offsets″ (p .turns) (nextAt s at) c
-          → Placing 3 s rules rules″ (p .turns) (nextAt s at) r → Placing 4 s events events″ (p .turns) (nextAt s at) e
+          → Placing ruleKind s rules rules″ (p .turns) (nextAt s at) r → Placing eventKind s events events″ (p .turns) (nextAt s at) e
           → Passing s ats ats″ offsets offsets″ rules rules″ events events″ next c r e
       pass x y z =
           let before = recordAt s at ∷ p .before in
           rw to (record { turns = p .turns; before = before; ahead = p .next .ahead; changing = x; ruling = y; eventing = z })
 
-      pub pass-change : kindAt s at ≡ 2 → {a o : ℕ} → a ≡ secondsInstant (transitionAt s at .at) → o ≡ offsetOf (transitionAt s at .offset)
+      pub pass-change : kindAt s at ≡ transitionKind → {a o : ℕ} → a ≡ secondsInstant (transitionAt s at .at) → o ≡ offsetOf (transitionAt s at .offset)
           → Passing s ats (set ats′ change a) offsets (set offsets′ change o) rules rules′ events events′ next (change + 1) rule event
       pass-change e a o =
           rw (a, o) (pass (change-one (p .inside) frame (p .changing) e) (skip-rule (λ q. omega arith)) (skip-event (λ q. omega arith)))
 
-      pub pass-rule : kindAt s at ≡ 3
+      pub pass-rule : kindAt s at ≡ ruleKind
           → Passing s ats ats′ offsets offsets′ rules (set rules′ rule at) events events′ next change (rule + 1) event
       pass-rule e = pass (skip-change (λ q. omega arith)) (place-one (p .inside) frame (p .ruling) e) (skip-event (λ q. omega arith))
 
-      pub pass-event : kindAt s at ≡ 4
+      pub pass-event : kindAt s at ≡ eventKind
           → Passing s ats ats′ offsets offsets′ rules rules′ events (set events′ event at) next change rule (event + 1)
       pass-event e = pass (skip-change (λ q. omega arith)) (skip-rule (λ q. omega arith)) (place-one (p .inside) frame (p .eventing) e)
 
-      pub pass-other : (kindAt s at ≡ 2 → ⊥) → (kindAt s at ≡ 3 → ⊥) → (kindAt s at ≡ 4 → ⊥)
+      pub pass-other : (kindAt s at ≡ transitionKind → ⊥) → (kindAt s at ≡ ruleKind → ⊥) → (kindAt s at ≡ eventKind → ⊥)
           → Passing s ats ats′ offsets offsets′ rules rules′ events events′ next change rule event
       pass-other a b c = pass (skip-change a) (skip-rule b) (skip-event c)
 
@@ -443,8 +443,8 @@ module _ {s ats ats′ offsets offsets′ rules rules′ events events′ : List
       → (_≡_ {A = Counts} (record { transitions = change; rules = rule; events = event }) (countsOf (records s)))
       × (ats′ ≡ wrote ats 0 (atsOf (records s)))
       × (offsets′ ≡ wrote offsets 0 (offsetsOf (records s)))
-      × (rules′ ≡ wrote rules 0 (places 3 s))
-      × (events′ ≡ wrote events 0 (places 4 s))
+      × (rules′ ≡ wrote rules 0 (rulePlaces s))
+      × (events′ ≡ wrote events 0 (eventPlaces s))
   pass-end p h =
       let c = change-end (p .changing) h in
       let r = place-end (p .ruling) h in

@@ -13,6 +13,7 @@ use Rattle.zone.specs.Units.{secondNs, dayNs, mostOffset}
 use Rattle.records.specs.Limits.{base}
 use Rattle.records.specs.Records.{Coverage, Transition, Rule, Event, Record, coverage, transition, rule, event}
 use Rattle.records.specs.Book.{kindAt, nextAt, many, refusal, records}
+use Rattle.records.specs.Layout.{transitionKind, ruleKind, eventKind}
 use Rattle.venue.specs.declared.opened.Header.{Header}
 use Rattle.venue.specs.declared.opened.Opened.{Opened}
 use Rattle.venue.specs.declared.opened.Opened.the-variants.{Refused, Empty, Venue}
@@ -79,6 +80,13 @@ placesFrom k s (suc turns) at =
 abbrev pub places : ℕ → List ℕ → List ℕ
 places k s = placesFrom k s (length s) 0
 
+-- the rules, and the events
+abbrev pub rulePlaces : List ℕ → List ℕ
+rulePlaces s = places ruleKind s
+
+abbrev pub eventPlaces : List ℕ → List ℕ
+eventPlaces s = places eventKind s
+
 -- ---- opening
 
 abbrev pub headerOf : List Record → Coverage → Header
@@ -87,9 +95,9 @@ headerOf rs c =
       start = record { 0 = instantOf (c .start) };
       end = record { 0 = instantOf (c .end) };
       first = offsetOf (c .offset);
-      transitions = many 2 rs;
-      rules = many 3 rs;
-      events = many 4 rs;
+      transitions = many transitionKind rs;
+      rules = many ruleKind rs;
+      events = many eventKind rs;
     }
 
 -- without coverage there is no data

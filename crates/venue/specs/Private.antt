@@ -6,6 +6,7 @@ use lib.ListN.{length}
 use Rattle.records.specs.Limits.{base}
 use Rattle.records.specs.Records.{Record}
 use Rattle.records.specs.Book.{many, refusal}
+use Rattle.records.specs.Layout.{transitionKind, ruleKind, eventKind}
 use Rattle.venue.specs.declared.opened.Counts.{Counts}
 
 -- a book is accepted, and the rooms have place for as many clock changes, rules and events as a book may have
@@ -17,4 +18,4 @@ pub record Fitting (s ats offsets rules events : List ℕ) : Type 0 where
   pub events-long : base .events ≤ length events
 
 abbrev pub countsOf : List Record → Counts
-countsOf rs = record { transitions = many 2 rs; rules = many 3 rs; events = many 4 rs }
+countsOf rs = record { transitions = many transitionKind rs; rules = many ruleKind rs; events = many eventKind rs }

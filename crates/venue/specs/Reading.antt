@@ -14,6 +14,7 @@ use Rattle.records.specs.Limits.{base}
 use Rattle.records.specs.Records.{Coverage, Published, Point, Rule, Event, recordAt}
 use Rattle.records.specs.Frame.{Framed}
 use Rattle.records.specs.Book.{kindAt, outside, lateStart, falling, reversed}
+use Rattle.records.specs.Layout.{ruleKind, eventKind}
 use Rattle.venue.specs.Opening.{instantOf, dayOf}
 
 -- a good record of kind k stands at p, in no more bytes than a book may have
@@ -29,6 +30,19 @@ pub record Listed (k : ℕ) (s : List ℕ) (p : ℕ) : Type 0 where
 -- a record of kind k stands at each of the places
 abbrev pub AllListed : ℕ → List ℕ → List ℕ → Type 0
 AllListed k s places = (i : ℕ) → i < length places → Listed k s (getD places i 0)
+
+-- a rule, and an event
+abbrev pub ListedRule : List ℕ → ℕ → Type 0
+ListedRule s p = Listed ruleKind s p
+
+abbrev pub ListedRules : List ℕ → List ℕ → Type 0
+ListedRules s places = AllListed ruleKind s places
+
+abbrev pub ListedEvent : List ℕ → ℕ → Type 0
+ListedEvent s p = Listed eventKind s p
+
+abbrev pub ListedEvents : List ℕ → List ℕ → Type 0
+ListedEvents s places = AllListed eventKind s places
 
 -- a published uncertainty: tag 0 exact, 1 granularity, 2 bound, 3 process start
 abbrev pub published : Published → Uncertainty

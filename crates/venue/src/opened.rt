@@ -2,21 +2,23 @@
 ghost use mathlib.Core.Path.{_≡_};
 ghost use Rattle.records.specs.Book.{records};
 ghost use Rattle.wire.specs.Fields.{wrote};
-ghost use Rattle.venue.specs.Opening.{opened, stored, atsOf, offsetsOf, places as Opening·places};
+ghost use Rattle.venue.specs.Opening.{opened, stored, atsOf, offsetsOf, rulePlaces, eventPlaces};
 ghost use Rattle.venue.specs.Private.{Fitting, countsOf};
-use book::MOST_EVENTS;
-use book::MOST_RULES;
-use book::MOST_TRANSITIONS;
 use book::check;
 use records::COVERAGE_END;
 use records::COVERAGE_OFFSET;
 use records::COVERAGE_START;
+use records::EVENT;
 use records::KIND;
+use records::MOST_EVENTS;
+use records::MOST_RULES;
+use records::MOST_TRANSITIONS;
 use records::OFFSETS_LOW;
+use records::RULE;
 use records::TRANSITION;
-use records::TRANSITION_BYTES;
 use records::TRANSITION_INSTANT;
 use records::TRANSITION_OFFSET;
+use records::TRANSITION_SIZE;
 use wire::HALF8;
 use wire::get2;
 use wire::signed4;
@@ -66,8 +68,8 @@ fn store(
         ⌜ (n ≡ countsOf (records (now (book .entry))))
         × (now (ats .exit) ≡ wrote (now (ats .entry)) 0 (atsOf (records (now (book .entry)))))
         × (now (offsets .exit) ≡ wrote (now (offsets .entry)) 0 (offsetsOf (records (now (book .entry)))))
-        × (now (rules .exit) ≡ wrote (now (rules .entry)) 0 (Opening·places 3 (now (book .entry))))
-        × (now (events .exit) ≡ wrote (now (events .entry)) 0 (Opening·places 4 (now (book .entry)))) ⌝ }
+        × (now (rules .exit) ≡ wrote (now (rules .entry)) 0 (rulePlaces (now (book .entry))))
+        × (now (events .exit) ≡ wrote (now (events .entry)) 0 (eventPlaces (now (book .entry)))) ⌝ }
 {
     let mut at: usize = 0;
     let mut change: usize = 0;
@@ -79,17 +81,17 @@ fn store(
             ats[change] = (signed8(book, at + TRANSITION_INSTANT).0 - SECOND_ZERO) * SECOND_NS;
             offsets[change] = signed4(book, at + TRANSITION_OFFSET).0 - OFFSETS_LOW;
             change += 1;
-            at += TRANSITION_BYTES;
+            at += TRANSITION_SIZE;
             continue;
         }
         let next = at + 2 + get2(book, at) as usize;
         match kind {
-            3 => {
+            RULE => {
                 rules[rule] = at as u32;
                 rule += 1;
                 at = next;
             }
-            4 => {
+            EVENT => {
                 events[event] = at as u32;
                 event += 1;
                 at = next;
@@ -116,8 +118,8 @@ pub fn open(
         ⌜ (r ≡ opened (now (book .entry)))
         × (now (ats .exit) ≡ stored (now (book .entry)) (now (ats .entry)) (atsOf (records (now (book .entry)))))
         × (now (offsets .exit) ≡ stored (now (book .entry)) (now (offsets .entry)) (offsetsOf (records (now (book .entry)))))
-        × (now (rules .exit) ≡ stored (now (book .entry)) (now (rules .entry)) (Opening·places 3 (now (book .entry))))
-        × (now (events .exit) ≡ stored (now (book .entry)) (now (events .entry)) (Opening·places 4 (now (book .entry)))) ⌝ }
+        × (now (rules .exit) ≡ stored (now (book .entry)) (now (rules .entry)) (rulePlaces (now (book .entry))))
+        × (now (events .exit) ≡ stored (now (book .entry)) (now (events .entry)) (eventPlaces (now (book .entry)))) ⌝ }
 {
     let number = check(book);
     if number != 0 {

@@ -13,7 +13,7 @@ use Rattle.wire.specs.Fields.{wrote}
 use Rattle.wire.proofs.Writing.{wrote-length}
 use Rattle.records.specs.Records.{ruleAt}
 use Rattle.records.proofs.Tests.{or-false}
-use Rattle.venue.specs.Reading.{AllListed}
+use Rattle.venue.specs.Reading.{ListedRules}
 use Rattle.day.specs.Governing.{governing}
 use Rattle.day.specs.Narrowing.{nearOf}
 use Rattle.day.proofs.Narrowing.{near-governing, near-few, near-listed}
@@ -56,7 +56,7 @@ stored (a ∷ b ∷ c ∷ ks) found vs x y n l f e =
       long = ap (λ (q : List ℕ). suc (suc (suc (length q)))) all ∙ ap (λ (k : ℕ). suc (suc (suc k))) (wrote-length ks 0 vs (omega arith));
     }
 
-pub kept-for : {s rules : List ℕ} (old found : List ℕ) {d behind n : ℕ} → AllListed 3 s rules → 3 + length rules ≤ length old → behind ≡ d + 64
+pub kept-for : {s rules : List ℕ} (old found : List ℕ) {d behind n : ℕ} → ListedRules s rules → 3 + length rules ≤ length old → behind ≡ d + 64
     → n ≡ length (nearOf s rules d (behind - 1)) → found ≡ wrote (take (length old - 3) (drop 3 old)) 0 (nearOf s rules d (behind - 1))
     → KeepsFor s rules d (keeping old found d behind n)
 kept-for {s} {rules} old found {d} {behind} {n} a l b e g =
@@ -64,7 +64,7 @@ kept-for {s} {rules} old found {d} {behind} {n} a l b e g =
       keeps =
           record {
             fits = omega (arith, f, p .count, p .long);
-            listed = subst (AllListed 3 s) (sym (p .places)) (near-listed s d (behind - 1) rules a);
+            listed = subst (ListedRules s) (sym (p .places)) (near-listed s d (behind - 1) rules a);
             same = λ k h i. ap (λ (ps : List ℕ). governing (map (ruleAt s) ps) k) (p .places) ∙ near-governing s (omega (arith, h, p .first)) (omega (arith, i, p .behind)) rules;
           };
       from = omega (arith, p .first);
@@ -92,8 +92,8 @@ part-is : (a : List ℕ) → part a ≡ keptPlaces a
 part-is a = let e : 3 + getD a 2 0 - 3 ≡ getD a 2 0 = omega arith in ap (λ (k : ℕ). take k (drop 3 a)) e
 
 module _ {s rules a : List ℕ} where
-  pub part-listed : Keeps s rules a → AllListed 3 s (part a)
-  part-listed k = subst (AllListed 3 s) (sym (part-is a)) (k .listed)
+  pub part-listed : Keeps s rules a → ListedRules s (part a)
+  part-listed k = subst (ListedRules s) (sym (part-is a)) (k .listed)
 
   pub part-governing : {d : ℕ} → KeepsFor s rules d a → governing (map (ruleAt s) (part a)) d ≡ governing (map (ruleAt s) rules) d
   part-governing {d} k = ap (λ (ps : List ℕ). governing (map (ruleAt s) ps) d) (part-is a) ∙ k .keeps .same d (k .from) (k .before)

@@ -7,7 +7,7 @@ use lib.ListN.{length, getD}
 use Rattle.zone.specs.Zone.{Zone, zoneOf}
 use Rattle.zone.specs.Answers.{Valid}
 use Rattle.records.specs.Records.{Point, ruleAt}
-use Rattle.venue.specs.Reading.{Listed, FromMidnight}
+use Rattle.venue.specs.Reading.{FromMidnight, ListedRule}
 use Rattle.spans.specs.Timeline.{Venue}
 use Rattle.day.specs.Days.{Held}
 use Rattle.day.specs.declared.Governed.{Governed}
@@ -26,7 +26,7 @@ module _ (s : List ℕ) (w : Walk) (p : ℕ) (h : Holds s w) (e : w .governed �
   held-by : RuleHeld s (w .next) (By p)
   held-by = subst (RuleHeld s (w .next)) e h
 
-  pub held-listed : Listed 3 s p
+  pub held-listed : ListedRule s p
   held-listed = held-by .0
 
   pub held-next : w .next ≤ length (ruleAt s p .points)

@@ -18,7 +18,7 @@ use Rattle.zone.specs.Answers.{Valid}
 use Rattle.zone.specs.declared.Instant.{Instant}
 use Rattle.calendar.specs.declared.Day.{Day}
 use Rattle.records.specs.Records.{Rule, ruleAt}
-use Rattle.venue.specs.Reading.{Listed}
+use Rattle.venue.specs.Reading.{ListedRule}
 use Rattle.spans.specs.Spans.{Span, keep, clip, reach}
 use Rattle.spans.specs.Timeline.{Edge, Venue, midnight, ofRule, spans, walk}
 use Rattle.spans.proofs.Loops.{clip-from, clip-keep, turn-any}
@@ -286,7 +286,7 @@ module _ (v : Venue Held) (hi turns began cursor date next : ℕ) (e : next ≡ 
 pub kept-nothing : (s : List ℕ) (z : Zone) (d : ℕ) (calm : Bool) (a : List ℕ) {o : Governed} → o ≡ Nothing → Kept s z d 0 calm o a
 kept-nothing s z d calm a e = subst (λ (g : Governed). Kept s z d 0 calm g a) (sym e) tt
 
-pub kept-rule : (s : List ℕ) (z : Zone) (d : ℕ) (a old : List ℕ) (p : ℕ) {o : Governed} → o ≡ By p → Listed 3 s p
+pub kept-rule : (s : List ℕ) (z : Zone) (d : ℕ) (a old : List ℕ) (p : ℕ) {o : Governed} → o ≡ By p → ListedRule s p
     → a ≡ wrote old 0 (edgeInstants z (ruleAt s p) d) → {calm : Bool}
     → (calm ≡ true → Calm z (ruleAt s p) d) → Kept s z d 0 calm o a
 unfolding wrote

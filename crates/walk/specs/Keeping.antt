@@ -4,7 +4,7 @@ use mathlib.Core.Path.{_≡_}
 use mathlib.Core.List.{List, map}
 use lib.ListN.{length, getD, take, drop}
 use Rattle.records.specs.Records.{ruleAt}
-use Rattle.venue.specs.Reading.{AllListed}
+use Rattle.venue.specs.Reading.{ListedRules}
 use Rattle.day.specs.Governing.{governing}
 
 -- an array's numbers: the first day that rules are kept for, the day behind the last, how many they are; then their places
@@ -20,7 +20,7 @@ keptPlaces a = take (getD a 2 0) (drop 3 a)
 -- on the days that they are kept for, the kept rules choose as all do
 pub record Keeps (s rules a : List ℕ) : Type 0 where
   pub fits : 3 + getD a 2 0 ≤ length a
-  pub listed : AllListed 3 s (keptPlaces a)
+  pub listed : ListedRules s (keptPlaces a)
   pub same : (d : ℕ) → firstDay a ≤ d → d < dayBehind a → governing (map (ruleAt s) (keptPlaces a)) d ≡ governing (map (ruleAt s) rules) d
 
 -- and a day is one of them

@@ -5,7 +5,7 @@ use mathlib.Core.List.{List, []}
 use lib.ListN.{length, getD}
 use Rattle.zone.specs.Zone.{Zone}
 use Rattle.records.specs.Records.{ruleAt}
-use Rattle.venue.specs.Reading.{Listed}
+use Rattle.venue.specs.Reading.{ListedRule}
 use Rattle.spans.specs.Spans.{clip}
 use Rattle.spans.specs.Timeline.{Venue}
 use Rattle.day.specs.Days.{Held}
@@ -24,7 +24,7 @@ use Rattle.walk.specs.declared.Turned.the-variants.{Done as Turned·Done
 -- the date's rule is one of the book, and the next of its spans one that it can have
 abbrev pub RuleHeld : List ℕ → ℕ → Governed → Type 0
 RuleHeld s k Nothing = Unit {0}
-RuleHeld s k (By p) = Listed 3 s p × (k ≤ length (ruleAt s p .points))
+RuleHeld s k (By p) = ListedRule s p × (k ≤ length (ruleAt s p .points))
 
 abbrev pub Holds : List ℕ → Walk → Type 0
 Holds s w = RuleHeld s (w .next) (w .governed)

@@ -12,7 +12,7 @@ use Rattle.zone.specs.Answers.{uncertain}
 use Rattle.zone.specs.declared.Uncertainty.{Uncertainty}
 use Rattle.zone.specs.declared.Uncertainty.the-variants.{Exact, PublishedGranularity, PublishedBound, ProcessStart, AmbiguousLocalTime, NonexistentLocalTime}
 use Rattle.records.specs.Records.{Point, Rule, ruleAt}
-use Rattle.venue.specs.Reading.{Listed, published}
+use Rattle.venue.specs.Reading.{published, ListedRule}
 use Rattle.venue.specs.Reading as Reading
 use Rattle.spans.specs.Spans.{Span, clip, reach}
 use Rattle.spans.specs.Timeline.{Edge, Venue, midnight, raised, cut, walk}
@@ -88,7 +88,7 @@ rest s z v hi w = restWith v hi w (clip (w .cursor .0) hi (onDate s z (w .date .
 abbrev pub Kept : List ℕ → Zone → ℕ → ℕ → Bool → Governed → List ℕ → Type 0
 Kept s z d k calm Nothing a = Unit {0}
 Kept s z d k calm (By p) a =
-    Listed 3 s p × (k ≤ length (ruleAt s p .points)) × (take (length (edgeInstants z (ruleAt s p) d)) a ≡ edgeInstants z (ruleAt s p) d)
+    ListedRule s p × (k ≤ length (ruleAt s p .points)) × (take (length (edgeInstants z (ruleAt s p) d)) a ≡ edgeInstants z (ruleAt s p) d)
     × (calm ≡ true → Calm z (ruleAt s p) d)
 
 pub record Stands (s : List ℕ) (z : Zone) (w : Walk) (a : List ℕ) : Type 0 where
@@ -148,7 +148,7 @@ spanNs = dayNs + mostNs + mostNs
 
 -- a rule and its point stand where a piece says, its span is not long, and where it is calm it holds what the rule says
 pub record Fits (s : List ℕ) (z : Zone) (q : Piece) : Type 0 where
-  pub listed : Listed 3 s (q .rule)
+  pub listed : ListedRule s (q .rule)
   pub point : q .point < length (ruleOf s q .points)
   pub shows : q .from .0 < q .to .0
   pub short : q .end .0 ≤ q .start .0 + spanNs

@@ -6,15 +6,15 @@ ghost use Prim.Native.Nat.{_+_, _≤_, _<_};
 ghost use lib.ListN.{length};
 ghost use Rattle.records.specs.Limits.{base};
 ghost use Rattle.records.specs.Records.{ruleAt};
-ghost use Rattle.venue.specs.Reading.{AllListed};
+ghost use Rattle.venue.specs.Reading.{ListedRules};
 ghost use Rattle.day.specs.Governing.{governing as Governing·governing};
 ghost use Rattle.day.specs.Meaning.{ruled, Stands};
 ghost use Rattle.walk.specs.Keeping.{Keeps, KeepsFor};
-use book::MOST_RULES;
 use calendar::Day;
 use day::Governed;
 use day::governing;
 use day::near;
+use records::MOST_RULES;
 
 const FIRST: usize = 0;
 
@@ -29,7 +29,7 @@ const STRETCH: u32 = 64;
 
 // Keeps the rules near a date and the days after it.
 fn keep(book: &[u8], rules: &[u32], d: Day, kept: &mut [u32])
-    requires { ⌜ AllListed 3 (now book) (now rules) × (length (now rules) ≤ base .rules) × (3 + base .rules ≤ length (now kept)) × (d .0 < 131072) ⌝ }
+    requires { ⌜ ListedRules (now book) (now rules) × (length (now rules) ≤ base .rules) × (3 + base .rules ≤ length (now kept)) × (d .0 < 131072) ⌝ }
     ensures { λ r. ⌜ KeepsFor (now (book .entry)) (now (rules .entry)) (d .0) (now (kept .exit)) ⌝ }
 {
     let behind = d.0 + STRETCH;
@@ -41,7 +41,7 @@ fn keep(book: &[u8], rules: &[u32], d: Day, kept: &mut [u32])
 
 // The rule that governs a date, as `governing`. Of more rules than a book may have, none are kept and all are looked at.
 pub(crate) fn governing_near(book: &[u8], rules: &[u32], d: Day, kept: &mut [u32]) -> Governed
-    requires { ⌜ AllListed 3 (now book) (now rules) × Keeps (now book) (now rules) (now kept) × (3 + base .rules ≤ length (now kept)) × (d .0 < 131072) ⌝ }
+    requires { ⌜ ListedRules (now book) (now rules) × Keeps (now book) (now rules) (now kept) × (3 + base .rules ≤ length (now kept)) × (d .0 < 131072) ⌝ }
     ensures { λ r. ⌜ (ruled (now (book .entry)) r ≡ Governing·governing (map (ruleAt (now (book .entry))) (now (rules .entry))) (d .0))
         × Stands (now (book .entry)) r × Keeps (now (book .entry)) (now (rules .entry)) (now (kept .exit)) ⌝ }
 {

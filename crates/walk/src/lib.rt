@@ -5,10 +5,10 @@ mod steady;
 mod step;
 mod turn;
 
-use book::MOST_POINTS;
-use book::MOST_RULES;
 use calendar::Day;
 use day::Governed;
+use records::MOST_POINTS;
+use records::MOST_RULES;
 pub use step::behind;
 pub use step::here;
 pub use step::segment;

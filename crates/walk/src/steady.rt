@@ -4,7 +4,7 @@ ghost use lib.ListN.{length};
 ghost use Rattle.zone.specs.Units.{dayNs};
 ghost use Rattle.records.specs.Limits.{base};
 ghost use Rattle.records.specs.Records.{ruleAt};
-ghost use Rattle.venue.specs.Reading.{Listed};
+ghost use Rattle.venue.specs.Reading.{ListedRule};
 ghost use Rattle.walk.specs.Shifting.{ShiftedIn};
 use spans::later;
 use venue::point_time;
@@ -14,7 +14,7 @@ use zone::Instant;
 
 // Stores the instants of the boundaries of a date that begins at `midnight`, by the rule at a place.
 pub(crate) fn steady_boundaries(book: &[u8], rule: u32, midnight: Instant, edges: &mut [u64])
-    requires { ⌜ Listed 3 (now book) rule × (base .points < length (now edges)) × (midnight .0 + dayNs < 2 ^ 64) ⌝ }
+    requires { ⌜ ListedRule (now book) rule × (base .points < length (now edges)) × (midnight .0 + dayNs < 2 ^ 64) ⌝ }
     ensures { λ r. ⌜ ShiftedIn (ruleAt (now (book .entry)) rule) (midnight .0) (now (edges .entry)) (now (edges .exit)) ⌝ }
 {
     let place = rule as usize;

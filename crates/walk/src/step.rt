@@ -11,7 +11,7 @@ ghost use Rattle.records.specs.Records.{ruleAt};
 ghost use Rattle.day.specs.Governing.{governing as Governing·governing};
 ghost use Rattle.day.specs.Days.{venueBy};
 ghost use Rattle.day.specs.Meaning.{heldBy};
-ghost use Rattle.venue.specs.Reading.{AllListed};
+ghost use Rattle.venue.specs.Reading.{ListedRules};
 ghost use Rattle.walk.specs.Walking.{onward as Walking·onward, behind as Walking·behind, Fits, heldIn, Showing};
 ghost use Rattle.walk.specs.Looking.{Holds, Looked, Shown, Leads};
 ghost use Rattle.walk.specs.Keeping.{Keeps};
@@ -121,7 +121,7 @@ pub fn turn_on(
     hi: Instant,
     w: Walk,
 ) -> Turned
-    requires { ⌜ Valid first (now ats) (now offsets) × AllListed 3 (now book) (now rules) × Keeps (now book) (now rules) (now kept)
+    requires { ⌜ Valid first (now ats) (now offsets) × ListedRules (now book) (now rules) × Keeps (now book) (now rules) (now kept)
         × Shown (now book) (zoneOf first (now ats) (now offsets)) (hi .0) w ⌝ }
     ensures { λ r. ⌜ Leads (now (book .entry)) (zoneOf first (now (ats .entry)) (now (offsets .entry)))
         (venueBy (zoneOf first (now (ats .entry)) (now (offsets .entry)))

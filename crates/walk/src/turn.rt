@@ -10,7 +10,7 @@ ghost use Rattle.zone.specs.Answers.{Valid};
 ghost use Rattle.zone.specs.Steady.{steadyOf};
 ghost use Rattle.records.specs.Limits.{base};
 ghost use Rattle.records.specs.Records.{ruleAt};
-ghost use Rattle.venue.specs.Reading.{Listed, AllListed};
+ghost use Rattle.venue.specs.Reading.{ListedRule, ListedRules};
 ghost use Rattle.day.specs.Governing.{governing as Governing·governing};
 ghost use Rattle.day.specs.Days.{venueBy};
 ghost use Rattle.walk.specs.Walking.{edgeInstants, isExact, Calm, Begun};
@@ -59,7 +59,7 @@ fn boundaries(
     d: Day,
     edges: &mut [u64],
 ) -> bool
-    requires { ⌜ Valid first (now ats) (now offsets) × Listed 3 (now book) rule × (base .points < length (now edges)) ⌝ }
+    requires { ⌜ Valid first (now ats) (now offsets) × ListedRule (now book) rule × (base .points < length (now edges)) ⌝ }
     ensures { λ r. ⌜ (now (edges .exit) ≡ wrote (now (edges .entry)) 0
         (edgeInstants (zoneOf first (now (ats .entry)) (now (offsets .entry))) (ruleAt (now (book .entry)) rule) (d .0)))
         × (r ≡ true → Calm (zoneOf first (now (ats .entry)) (now (offsets .entry))) (ruleAt (now (book .entry)) rule) (d .0)) ⌝ }
@@ -103,7 +103,7 @@ fn date_boundaries(
     d: Day,
     edges: &mut [u64],
 ) -> bool
-    requires { ⌜ Valid first (now ats) (now offsets) × Listed 3 (now book) rule × (base .points < length (now edges))
+    requires { ⌜ Valid first (now ats) (now offsets) × ListedRule (now book) rule × (base .points < length (now edges))
         × SteadyOn (zoneOf first (now ats) (now offsets)) steady (d .0) ⌝ }
     ensures { λ r. ⌜ (now (edges .exit) ≡ wrote (now (edges .entry)) 0
         (edgeInstants (zoneOf first (now (ats .entry)) (now (offsets .entry))) (ruleAt (now (book .entry)) rule) (d .0)))
@@ -141,7 +141,7 @@ pub fn begin(
     turns: u32,
     cursor: Instant,
 ) -> Walk
-    requires { ⌜ Valid first (now ats) (now offsets) × AllListed 3 (now book) (now rules) × Keeps (now book) (now rules) (now kept) ⌝ }
+    requires { ⌜ Valid first (now ats) (now offsets) × ListedRules (now book) (now rules) × Keeps (now book) (now rules) (now kept) ⌝ }
     ensures { λ r. ⌜ Begun (now (book .entry)) (zoneOf first (now (ats .entry)) (now (offsets .entry)))
         (venueBy (zoneOf first (now (ats .entry)) (now (offsets .entry)))
         (Governing·governing (map (ruleAt (now (book .entry))) (now (rules .entry))))) turns (cursor .0) r (now (edges .exit))

@@ -1,5 +1,5 @@
 use Rattle.tell.proofs.Kept.{Turning, turn-start, turn-next, turn-room, turn-one, turn-end}
-use Rattle.venue.specs.Reading.{Listed}
+use Rattle.venue.specs.Reading.{ListedEvent}
 use lib.ListN.{getD}
 use Prim.Native.Nat.{_-_, _<_}
 use native.Mathlib.Omega.{arith}
@@ -33,7 +33,7 @@ kept : (c : At tie.In-loop) → c .before .loop .next < entry c .args .n
 kept c = turn-next _ _ _ _ _ _ (c .before .loop .inv) (c .loop-test .taken)
 
 -- and an event of the book
-its-event : (c : At tie.In-loop) → Listed 4 (entry c .args .book .now) (getD (entry c .args .which .now) (c .before .loop .next) 0)
+its-event : (c : At tie.In-loop) → ListedEvent (entry c .args .book .now) (getD (entry c .args .which .now) (c .before .loop .next) 0)
 its-event c = entry c .pre .2 _ (kept c)
 
 loop-holds : At tie.Need-loop-holds

@@ -1,6 +1,6 @@
 use mathlib.Core.Path.{_≡_}
 use lib.ListN.{length}
-use Prim.Native.Nat.{_-_, _≤_}
+use Prim.Native.Nat.{_≤_}
 use native.Mathlib.Omega.{arith}
 use Rattle.vectors_book.proofs.all_blocks.Statement.{statement}
 use Rattle.vectors_book.proofs.all_blocks.Tie as tie

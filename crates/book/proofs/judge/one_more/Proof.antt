@@ -2,6 +2,7 @@ use Rattle.records.proofs.Frames.{the-fourth, room2}
 use mathlib.Core.Path.{_≡_, sym, _∙_}
 use Rattle.records.specs.Book.{kindAt}
 use native.Mathlib.Omega.{arith}
+use Rattle.records.specs.Layout.{coverageKind, transitionKind, ruleKind, eventKind}
 use Rattle.book.proofs.judge.one_more.Statement.{statement}
 use Rattle.book.proofs.judge.one_more.Tie as tie
 
@@ -52,28 +53,28 @@ returns : tie.Need-returns
 returns c =
     let at-match = c .before in
     let at-start = at-match .before .before in
-    let z : kindAt ((at-start .args .book) .now) (at-start .args .at) ≡ 1 = sym ((at-start .pre) .1) ∙ (at-match .match .keys1) in rw z
+    let z : kindAt ((at-start .args .book) .now) (at-start .args .at) ≡ coverageKind = sym ((at-start .pre) .1) ∙ (at-match .match .keys1) in rw z
 
 returns-2 : tie.Need-returns-2
 returns-2 c =
     let at-signed8 = c .before in
     let at-match = at-signed8 .before .before in
     let at-start = at-match .before .before in
-    let z : kindAt (at-start .args .book .now) (at-start .args .at) ≡ 2 = sym (at-start .pre .1) ∙ (at-match .match .keys2) in
+    let z : kindAt (at-start .args .book .now) (at-start .args .at) ≡ transitionKind = sym (at-start .pre .1) ∙ (at-match .match .keys2) in
     rw (z, (at-signed8 .signed8 .ensures))
 
 returns-3 : tie.Need-returns-3
 returns-3 c =
     let at-match = c .before in
     let at-start = at-match .before .before in
-    let z : kindAt ((at-start .args .book) .now) (at-start .args .at) ≡ 3 = sym ((at-start .pre) .1) ∙ (at-match .match .keys3) in rw z
+    let z : kindAt ((at-start .args .book) .now) (at-start .args .at) ≡ ruleKind = sym ((at-start .pre) .1) ∙ (at-match .match .keys3) in rw z
 
 returns-4 : tie.Need-returns-4
 returns-4 c =
     let at-match = c .before in
     let at-start = at-match .before .before in
     let args = at-start .args in
-    let z : kindAt (args .book .now) (args .at) ≡ 4 = sym (at-start .pre .1) ∙ the-fourth (args .book .now) (args .at) (args .kind) (at-start .pre .0)
+    let z : kindAt (args .book .now) (args .at) ≡ eventKind = sym (at-start .pre .1) ∙ the-fourth (args .book .now) (args .at) (args .kind) (at-start .pre .0)
     (at-start .pre .1) (at-match .match .rest .0 .0 .1) (at-match .match .rest .0 .1) (at-match .match .rest .1) in
     rw z
 

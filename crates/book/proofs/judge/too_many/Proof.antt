@@ -2,6 +2,7 @@ use lib.Dec.{leb}
 use mathlib.Core.Path.{sym, ap₂}
 use Rattle.records.proofs.Tests.{by-rest}
 use native.Mathlib.Omega.{arith}
+use Rattle.records.specs.Limits.{base}
 use Rattle.book.proofs.judge.too_many.Statement.{statement}
 use Rattle.book.proofs.judge.too_many.Tie as tie
 
@@ -28,7 +29,7 @@ returns-4 c =
     let h1 = (at-match .match .rest) .0 .0 .1 in
     let h2 = (at-match .match .rest) .0 .1 in
     let h3 = (at-match .match .rest) .1 in
-    sym (ap₂ leb (by-rest 1 640 256 32 h1 h2 h3) (by-rest (args .t .coverages) (args .t .transitions) (args .t .rules) (args .t .events) h1 h2 h3))
+    sym (ap₂ leb (by-rest 1 (base .transitions) (base .rules) (base .events) h1 h2 h3) (by-rest (args .t .coverages) (args .t .transitions) (args .t .rules) (args .t .events) h1 h2 h3))
 
 pub too-many-spec : {M : Type 1} → statement M
 too-many-spec =

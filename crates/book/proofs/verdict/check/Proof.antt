@@ -2,12 +2,13 @@ use native.Mathlib.Omega.{arith}
 use Prim.Native.Nat.{ℕ, _-_, _+_, _≤_}
 use mathlib.Core.Path.{_≡_, sym, ap, _∙_}
 use mathlib.Core.List.{List}
-use mathlib.Core.Bool.{false}
+use mathlib.Core.Bool.{Bool, false, _&&_}
 use lib.ListN.{length}
 use Rattle.records.specs.Limits.{base}
 use Rattle.records.specs.Book.{headless, tooMany, badFields, lateStart, reversed}
 use Rattle.records.specs.Frame.{Framed}
 use Rattle.records.proofs.Frames.{size-by, framed, room2, next2, step-least}
+use Rattle.records.specs.Layout.{transitionSize, isRule}
 use Rattle.book.proofs.Items.{looked-none}
 use Rattle.book.proofs.Before.{Looking, item-inside, items-4, item-below, look-on, late-5, falls-6, reversed-7, covers-8, transition-9, on-transition, on-other, Here, start, over, end, stop-2, Known, known, headless-is, head-2, many-is, many-3, fields-4, room-of, r, earlier}
 use Rattle.book.proofs.verdict.check.Statement.{statement}
@@ -57,7 +58,7 @@ in-range c = sym (c .before .bad-fields .ensures) ∙ c .if6 .left
 -- a transition
 transition-room : (c : At tie.Then7)
     → let l = c .before .before .before .before .before .before .before .before .before .before .before .before in
-    l .records .at + 16 ≤ length (bookIn l)
+    l .records .at + transitionSize ≤ length (bookIn l)
 transition-room c = let n = known-at (c .before .before .before .before .before .before .before) in room2 _ _ _ (n .frame) (n .kind) (c .if7 .taken)
 
 -- a record whose points or times are being looked at: every type that follows from it is written by these short paths
@@ -67,11 +68,17 @@ looking-at : (c : At tie.At-points)
     Looking (bookIn l) (l .records .at) (l .records .t) (at-get22 .get22 .result) (c .before .items .result) (c .points .i) (c .points .item) (c .points .least) (c .points .falls)
 looking-at c = c .points .inv
 
--- and behind them, that it does not start late, and that it is not reversed
+-- and behind them, that it does not start late, whether it falls, and that it is not reversed
 prompt : (c : At tie.Else10) → lateStart (r (looking-at (c .before .before .before) .known)) ≡ false
 prompt c = sym (c .before .late-start .ensures) ∙ c .if10 .left
 
-forward : (c : At tie.Else12) → reversed (r (looking-at (c .before .before .before .before .before .before) .known)) ≡ false
+falls : (c : At tie.After-is-rule) {b : Bool}
+    → let at-points = c .before .before .before .before in
+    let at-get22 = at-points .before .before .before .before .before .before .before .before .before in
+    (at-points .points .falls && c .is-rule .result) ≡ b → (at-points .points .falls && isRule (at-get22 .get22 .result)) ≡ b
+falls c e = ap (_&&_ (c .before .before .before .before .points .falls)) (sym (c .is-rule .ensures)) ∙ e
+
+forward : (c : At tie.Else12) → reversed (r (looking-at (c .before .before .before .before .before .before .before) .known)) ≡ false
 forward c = sym (c .before .is-reversed .ensures) ∙ c .if12 .left
 
 returns : At tie.Need-returns
@@ -186,20 +193,20 @@ late-start-requires : At tie.Need-late-start-requires
 late-start-requires c κs = let n = looking-at (c .before) .known in (n .frame, n .kind)
 
 is-reversed-requires : At tie.Need-is-reversed-requires
-is-reversed-requires c κs = let n = looking-at (c .before .before .before .before) .known in (n .frame, n .kind)
+is-reversed-requires c κs = let n = looking-at (c .before .before .before .before .before) .known in (n .frame, n .kind)
 
 covers-nothing-requires : At tie.Need-covers-nothing-requires
-covers-nothing-requires c κs = let n = looking-at (c .before .before .before .before .before .before) .known in (n .frame, n .kind)
+covers-nothing-requires c κs = let n = looking-at (c .before .before .before .before .before .before .before) .known in (n .frame, n .kind)
 
 one-more-requires-2 : At tie.Need-one-more-requires-2
 one-more-requires-2 c κs =
-    let looking = looking-at (c .before .before .before .before .before .before .before .before) in
+    let looking = looking-at (c .before .before .before .before .before .before .before .before .before) in
     let n = looking .known in
     (n .frame, n .kind, room-of n (looking .fields))
 
 records-less-2 : At tie.Need-records-less-2
 records-less-2 c =
-    let at-get2 = c .before .before .before .before .before .before .before .before .before .before .before .before .before .before .before .before .before .before .before in
+    let at-get2 = c .before .before .before .before .before .before .before .before .before .before .before .before .before .before .before .before .before .before .before .before in
     let l = at-get2 .before .before .before .before in
     let z = size-by (bookIn l) (l .records .at) _ (at-get2 .get2 .ensures) in
     let f = frame-at (at-get2 .before) in
@@ -209,12 +216,12 @@ records-again-2 : At tie.Need-records-again-2
 records-again-2 c =
     let at-if12 = c .before .before .before in
     let at-if11 = at-if12 .before .before in
-    let at-if10 = at-if11 .before in
+    let at-if10 = at-if11 .before .before in
     let at-points-test = at-if10 .before .before in
     let at-if7 = at-points-test .before .before .before in
     let at-get2 = at-if7 .before .before .before .before .before .before .before .before in
     let l = at-get2 .before .before .before .before in
-    on-other (looking-at (at-points-test .before)) (at-points-test .points-test .left) (prompt at-if10) (at-if11 .if11 .left) (forward at-if12)
+    on-other (looking-at (at-points-test .before)) (at-points-test .points-test .left) (prompt at-if10) (falls (at-if11 .before) (at-if11 .if11 .left)) (forward at-if12)
     (sym (c .before .before .covers-nothing .ensures) ∙ c .before .if13 .left) (at-if7 .if7 .left) _ (c .one-more2 .ensures) _
     (ap (λ (z : ℕ). (l .records .at) + 2 + z) (size-by (bookIn l) (l .records .at) _ (at-get2 .get2 .ensures)))
 
@@ -261,22 +268,25 @@ returns-9 c =
 
 returns-10 : At tie.Need-returns-10
 returns-10 c =
-    let at-points-test = c .before .before .before in
-    falls-6 (looking-at (at-points-test .before)) (at-points-test .points-test .left) (prompt (c .before)) (c .if11 .taken)
+    let at-if10 = c .before .before in
+    let at-points-test = at-if10 .before .before in
+    falls-6 (looking-at (at-points-test .before)) (at-points-test .points-test .left) (prompt at-if10) (falls (c .before) (c .if11 .taken))
 
 returns-11 : At tie.Need-returns-11
 returns-11 c =
     let at-if11 = c .before .before in
-    let at-points-test = at-if11 .before .before .before in
-    reversed-7 (looking-at (at-points-test .before)) (at-points-test .points-test .left) (prompt (at-if11 .before)) (at-if11 .if11 .left)
+    let at-if10 = at-if11 .before .before in
+    let at-points-test = at-if10 .before .before in
+    reversed-7 (looking-at (at-points-test .before)) (at-points-test .points-test .left) (prompt at-if10) (falls (at-if11 .before) (at-if11 .if11 .left))
     (sym (c .before .is-reversed .ensures) ∙ c .if12 .taken)
 
 returns-12 : At tie.Need-returns-12
 returns-12 c =
     let at-if12 = c .before .before in
     let at-if11 = at-if12 .before .before in
-    let at-points-test = at-if11 .before .before .before in
-    covers-8 (looking-at (at-points-test .before)) (at-points-test .points-test .left) (prompt (at-if11 .before)) (at-if11 .if11 .left) (forward at-if12)
+    let at-if10 = at-if11 .before .before in
+    let at-points-test = at-if10 .before .before in
+    covers-8 (looking-at (at-points-test .before)) (at-points-test .points-test .left) (prompt at-if10) (falls (at-if11 .before) (at-if11 .if11 .left)) (forward at-if12)
     (sym (c .before .covers-nothing .ensures) ∙ c .if13 .taken)
 
 pub check-spec : {M : Type 1} → statement M
@@ -314,6 +324,7 @@ check-spec =
     points-less
     points-again
     late-start-requires
+    (λ c κs. tt)
     is-reversed-requires
     covers-nothing-requires
     one-more-requires-2

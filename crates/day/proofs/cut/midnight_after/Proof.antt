@@ -2,7 +2,7 @@ use Rattle.day.proofs.Cutting.{same-midnight}
 use Rattle.zone.specs.Answers.{boundaryAt}
 use native.Mathlib.Numerals.{add-one}
 use Rattle.zone.specs.Zone.{zoneOf}
-use Prim.Native.Nat.{ℕ, _-_}
+use Prim.Native.Nat.{ℕ}
 use mathlib.Core.Path.{ap, _∙_}
 use native.Mathlib.Omega.{arith}
 use borrow.Author.Needs.{needs}

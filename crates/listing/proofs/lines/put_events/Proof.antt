@@ -1,3 +1,4 @@
+use Rattle.answer.specs.Forms.{eventSize}
 use Rattle.listing.proofs.Reading.{event-one, event-none, same-event, event-put}
 use Rattle.listing.proofs.Writing.{Going, begins, fits-next, goes-on}
 use Rattle.listing.specs.Listing.{eventLines}
@@ -11,7 +12,7 @@ use Rattle.listing.proofs.lines.put_events.Tie as tie
 
 abbrev Inv-loop : tie.InvT-loop
 Inv-loop answer first n out₀ at place₀ from₀ left₀ out place from left =
-    Inside from (35 * left) answer × Going out₀ at (eventLines (eventsFrom answer first n)) (eventLines (eventsFrom answer from left)) out place
+    Inside from (eventSize * left) answer × Going out₀ at (eventLines (eventsFrom answer first n)) (eventLines (eventsFrom answer from left)) out place
 
 abbrev μ-loop : tie.MeasureT-loop
 μ-loop answer first n out₀ at place₀ from₀ left₀ out place from left = left

@@ -1,5 +1,5 @@
 use Rattle.passes.proofs.Heads.{calm-head, span-head}
-use Rattle.venue.specs.Reading.{Listed}
+use Rattle.venue.specs.Reading.{ListedRule}
 use Rattle.zone.specs.Zone.{zoneOf}
 use Prim.Native.Nat.{ℕ}
 use mathlib.Core.Path.{sym, subst}
@@ -49,7 +49,7 @@ phase-of-requires-2 : tie.Need-phase-of-requires-2
 phase-of-requires-2 c κs =
     let at-segment = c .before .before .before in
     let at-start = at-segment .before .before .before .before .before .before .before in
-    subst (λ (p : ℕ). Listed 3 ((at-start .args .book) .now) p) (sym ((at-segment .segment .ensures) .1)) ((at-start .pre) .1 .listed)
+    subst (λ (p : ℕ). ListedRule ((at-start .args .book) .now) p) (sym ((at-segment .segment .ensures) .1)) ((at-start .pre) .1 .listed)
 
 returns-2 : tie.Need-returns-2
 returns-2 c =

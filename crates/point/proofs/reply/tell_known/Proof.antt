@@ -2,7 +2,7 @@ use Rattle.lend.proofs.Replies.{lent-short, lent-written, lent-reply}
 use Rattle.tell.specs.Shown.{Shown, shown, shownForms, headForm}
 use Rattle.tell.proofs.Showing.{shown-length, shown-put}
 use Rattle.events.proofs.Order.{length-sorted}
-use Rattle.answer.specs.Forms.{encodeAll}
+use Rattle.answer.specs.Forms.{encodeAll, phaseSize, eventSize}
 use Rattle.answer.specs.Meaning.{phaseOf}
 use Rattle.day.specs.Meaning.{heldBy}
 use Rattle.records.specs.Records.{eventAt}
@@ -34,7 +34,7 @@ answer c = encodeAll (shownForms (c .args .g .start .at .0) (c .args .g .end .at
 counted : (c : tie.After-count-events) → c .count-events .result ≡ length (shownIn (start c) .events)
 counted c = c .count-events .ensures .0 ∙ sym (length-sorted _)
 
-long : (c : tie.After-count-events) → length (answer (start c)) ≡ 105 + 35 * (c .count-events .result)
+long : (c : tie.After-count-events) → length (answer (start c)) ≡ phaseSize + eventSize * (c .count-events .result)
 long c = omega (arith, shown-length (start c .args .g .start .at .0) (start c .args .g .end .at .0) (shownIn (start c)), counted c)
 
 returns : tie.Need-returns

@@ -4,6 +4,7 @@ use Prim.Native.Nat.{_+_, _≤_}
 use native.Mathlib.Omega.{arith}
 use borrow.Author.Tests.{not-true, not-false}
 use lib.ListN.{length}
+use Rattle.answer.specs.Forms.{gapKind, gapLength, eventSize}
 use Rattle.rows.specs.Rows.{framed}
 use Rattle.rows.proofs.Turns.{framed-holds}
 use Rattle.rows.proofs.Judging.{gap-unframed, gap-by}
@@ -16,11 +17,11 @@ returns c =
     let args = c .before .before .before .args in
     gap-unframed (args .bytes .now) (args .at) (sym (c .before .framed .ensures) ∙ not-true _ (c .if1 .taken))
 
-stands : (c : tie.Else1) → let args = c .before .before .before .args in framed 17 35 (args .bytes .now) (args .at) ≡ true
+stands : (c : tie.Else1) → let args = c .before .before .before .args in framed gapKind gapLength (args .bytes .now) (args .at) ≡ true
 stands c = sym (c .before .framed .ensures) ∙ not-false _ (c .if1 .left)
 
-whole : (c : tie.Else1) → let args = c .before .before .before .args in args .at + 2 + 35 ≤ length (args .bytes .now)
-whole c = let args = c .before .before .before .args in framed-holds (args .bytes .now) (args .at) 17 35 (stands c) .0
+whole : (c : tie.Else1) → let args = c .before .before .before .args in args .at + 2 + eventSize ≤ length (args .bytes .now)
+whole c = let args = c .before .before .before .args in framed-holds (args .bytes .now) (args .at) gapKind gapLength (stands c) .0
 
 returns-2 : tie.Need-returns-2
 returns-2 c =

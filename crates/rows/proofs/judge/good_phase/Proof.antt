@@ -4,6 +4,7 @@ use Prim.Native.Nat.{_+_, _≤_}
 use native.Mathlib.Omega.{arith}
 use borrow.Author.Tests.{not-true, not-false}
 use lib.ListN.{length}
+use Rattle.answer.specs.Forms.{phaseKind, phaseLength}
 use Rattle.rows.specs.Rows.{framed}
 use Rattle.rows.proofs.Turns.{framed-holds}
 use Rattle.rows.proofs.Judging.{phase-unframed, phase-by}
@@ -16,11 +17,11 @@ returns c =
     let args = c .before .before .before .args in
     phase-unframed (args .bytes .now) (args .at) (sym (c .before .framed .ensures) ∙ not-true _ (c .if1 .taken))
 
-stands : (c : tie.Else1) → let args = c .before .before .before .args in framed 16 103 (args .bytes .now) (args .at) ≡ true
+stands : (c : tie.Else1) → let args = c .before .before .before .args in framed phaseKind phaseLength (args .bytes .now) (args .at) ≡ true
 stands c = sym (c .before .framed .ensures) ∙ not-false _ (c .if1 .left)
 
 whole : (c : tie.Else1) → let args = c .before .before .before .args in args .at + 2 + 103 ≤ length (args .bytes .now)
-whole c = let args = c .before .before .before .args in framed-holds (args .bytes .now) (args .at) 16 103 (stands c) .0
+whole c = let args = c .before .before .before .args in framed-holds (args .bytes .now) (args .at) phaseKind phaseLength (stands c) .0
 
 returns-2 : tie.Need-returns-2
 returns-2 c =

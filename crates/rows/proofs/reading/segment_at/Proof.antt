@@ -1,4 +1,5 @@
 use Rattle.records.specs.Layout.{number, kind}
+use Rattle.answer.specs.Forms.{phaseSize, gapSize}
 use Rattle.rows.proofs.Places.{segment-room, phase-room}
 use Rattle.rows.proofs.Judging.{phase-made, gap-made}
 use Prim.Native.Nat.{_+_, _^_, _≤_, _<_}
@@ -13,7 +14,7 @@ short : (c : tie.After-shared-slice-known) → length (c .before .args .bytes .n
 short c = omega (arith, c .shared-slice-known .given (length (c .before .args .bytes .now)))
 
 -- what both kinds have lies in the bytes
-whole : (c : tie.After-shared-slice-known) → (c .before .args .at) + 37 ≤ length (c .before .args .bytes .now)
+whole : (c : tie.After-shared-slice-known) → (c .before .args .at) + gapSize ≤ length (c .before .args .bytes .now)
 whole c = segment-room _ _ (c .before .pre)
 
 -- a phase stands here
@@ -21,7 +22,7 @@ is-phase : (c : tie.Then1) → let args = c .before .before .before .before .bef
 is-phase c = sym (c .before .get2 .ensures) ∙ (c .if1 .taken)
 
 -- and lies in the bytes
-phase-whole : (c : tie.Then1) → let args = c .before .before .before .before .before .args in (args .at) + 105 ≤ length (args .bytes .now)
+phase-whole : (c : tie.Then1) → let args = c .before .before .before .before .before .args in (args .at) + phaseSize ≤ length (args .bytes .now)
 phase-whole c = phase-room _ _ (c .before .before .before .before .before .pre) (is-phase c)
 
 add-signed8 : tie.Need-add-signed8

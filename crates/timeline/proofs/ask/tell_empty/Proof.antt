@@ -5,7 +5,7 @@ use mathlib.Core.List.{List}
 use Prim.Native.Nat.{ℕ}
 use lib.ListN.{length}
 use Rattle.lend.proofs.Replies.{lent-short, lent-written, lent-reply}
-use Rattle.answer.specs.Forms.{encodeAll}
+use Rattle.answer.specs.Forms.{encodeAll, gapSize}
 use Rattle.timeline.specs.Private.{gapForms}
 use Rattle.timeline.proofs.Parts.{gap-some, gap-length}
 use borrow.Author.Needs.{needs}
@@ -16,7 +16,7 @@ use Rattle.timeline.proofs.ask.tell_empty.Tie as tie
 abbrev answer : tie.Start → List ℕ
 answer c = encodeAll (gapForms none (c .args .start .0) (c .args .end .0))
 
-long : (c : tie.Start) → length (answer c) ≡ 37
+long : (c : tie.Start) → length (answer c) ≡ gapSize
 long c = gap-length none _ _ ∙ gap-some (c .pre)
 
 returns : tie.Need-returns

@@ -4,6 +4,7 @@ use mathlib.Core.Path.{_≡_, sym, _∙_}
 use Prim.Native.Nat.{ℕ}
 use Rattle.records.specs.Limits.{base}
 use Rattle.records.specs.Book.{refusal}
+use Rattle.records.specs.Layout.{ruleKind, eventKind}
 use Rattle.venue.proofs.Header.{refused-answer, refused-kept, accepted-stored, nothing-stored, empty-answer, empty-places, empty-ats, empty-offsets, Head, head, venue-answer}
 use borrow.Author.Needs.{needs}
 use Rattle.venue.proofs.opened.open.Statement.{statement}
@@ -36,8 +37,8 @@ returns-2 c =
       empty-answer s ok none,
       nothing-stored s ok _ _ (empty-ats s ok none),
       nothing-stored s ok _ _ (empty-offsets s ok none),
-      nothing-stored s ok _ _ (empty-places s ok none 3),
-      nothing-stored s ok _ _ (empty-places s ok none 4),
+      nothing-stored s ok _ _ (empty-places s ok none ruleKind),
+      nothing-stored s ok _ _ (empty-places s ok none eventKind),
     )
 
 signed8-requires : tie.Need-signed8-requires

@@ -7,6 +7,7 @@ use lib.ListN.{length}
 use Rattle.records.specs.Limits.{base}
 use Rattle.records.specs.Book.{kindAt, nextAt, many, most, records}
 use Rattle.records.proofs.Frames.{size-by, room2, next2}
+use Rattle.records.specs.Layout.{transitionKind, ruleKind, eventKind, transitionSize}
 use Rattle.venue.proofs.Passing.{Passing, Standing, Ranged, few-records, pass-start, standing, frame, range, room-change, room-rule, room-event, pass-change, pass-rule, pass-event, pass-other, pass-end, instant-kept, offset-kept}
 use Rattle.venue.proofs.opened.store.Statement.{statement}
 use Rattle.venue.proofs.opened.store.Tie as tie
@@ -42,10 +43,10 @@ few : (c : At tie.In-loop) (k : ℕ) → many k (records (bookIn c)) ≤ most ba
 few c k = few-records k (bookIn c) (c .before .before .before .before .before .before .before .pre .accepted)
 
 -- a clock change
-is-change : (c : At tie.Then1) → let l = c .before .before in kindAt (bookIn l) (placeIn l) ≡ 2
+is-change : (c : At tie.Then1) → let l = c .before .before in kindAt (bookIn l) (placeIn l) ≡ transitionKind
 is-change c = sym (c .before .get2 .ensures) ∙ (c .if1 .taken)
 
-change-room : (c : At tie.Then1) → let l = c .before .before in placeIn l + 16 ≤ length (bookIn l)
+change-room : (c : At tie.Then1) → let l = c .before .before in placeIn l + transitionSize ≤ length (bookIn l)
 change-room c = let l = c .before .before in room2 (bookIn l) (placeIn l) _ (frame (here l)) refl (is-change c)
 
 in-range : (c : At tie.Then1) → let l = c .before .before in Ranged (bookIn l) (placeIn l)
@@ -97,7 +98,7 @@ slice-write-offsets : At tie.Need-slice-write-offsets
 slice-write-offsets c = let then = c .before .before .before .before in room-change (here (then .before .before)) (is-change then) .1
 
 add-change : At tie.Need-add-change
-add-change c = let l = c .before .before .before .before .before .before in omega (arith, few l 2, (l .before .loop .inv) .changing .total)
+add-change c = let l = c .before .before .before .before .before .before in omega (arith, few l transitionKind, (l .before .loop .inv) .changing .total)
 
 add-at : At tie.Need-add-at
 add-at c = let then = c .before .before .before .before in omega (arith, change-room then, (here (then .before .before)) .small)
@@ -130,7 +131,7 @@ slice-write-rules : At tie.Need-slice-write-rules
 slice-write-rules c = room-rule (here (c .before .before .before .before)) (sym (c .before .before .before .get2 .ensures) ∙ (c .match .keys1))
 
 add-rule : At tie.Need-add-rule
-add-rule c = let l = c .before .before .before .before in omega (arith, few l 3, (l .before .loop .inv) .ruling .total)
+add-rule c = let l = c .before .before .before .before in omega (arith, few l ruleKind, (l .before .loop .inv) .ruling .total)
 
 loop-less-2 : At tie.Need-loop-less-2
 loop-less-2 c = omega (arith, behind (c .before), (frame (here (c .before .before .before .before))) .whole)
@@ -145,7 +146,7 @@ slice-write-events : At tie.Need-slice-write-events
 slice-write-events c = room-event (here (c .before .before .before .before)) (sym (c .before .before .before .get2 .ensures) ∙ (c .match .keys2))
 
 add-event : At tie.Need-add-event
-add-event c = let l = c .before .before .before .before in omega (arith, few l 4, (l .before .loop .inv) .eventing .total)
+add-event c = let l = c .before .before .before .before in omega (arith, few l eventKind, (l .before .loop .inv) .eventing .total)
 
 loop-less-3 : At tie.Need-loop-less-3
 loop-less-3 c = omega (arith, behind (c .before), (frame (here (c .before .before .before .before))) .whole)
