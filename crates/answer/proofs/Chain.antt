@@ -1,11 +1,11 @@
--- One writer after another, from the last backwards, and the bits of an instant's number. Assumes nothing.
+-- One writer after another, from the last backwards. Assumes nothing.
 use mathlib.Core.Path.{_≡_, refl, sym, ap, subst, _∙_}
-use mathlib.Core.Bool.{Bool, true, false}
+use mathlib.Core.Bool.{true}
 use mathlib.Core.List.{List, [], _∷_, _++_, append-assoc, append-nil}
 use mathlib.Core.Option.{Option, none, some}
-use Prim.Native.Nat.{ℕ, zero, suc, _+_, _-_, _*_, _%_, _^_, _≤_, _<_}
+use Prim.Native.Nat.{ℕ, zero, suc, _+_, _*_, _≤_, _<_}
 use native.Mathlib.Omega.{arith}
-use borrow.Author.Tests.{ltb-true, ltb-false}
+use borrow.Author.Tests.{ltb-true}
 use lib.Dec.{ltb}
 use lib.IntN.{ℤ}
 use lib.ListN.{length, getD, take, drop, length-append, length-take, length-drop}
@@ -14,8 +14,6 @@ use mir.Val.{ofZ}
 use Rattle.wire.specs.Fields.{Inside, Put, bytes, wrote, Field, laid}
 use lib.Seq.{take-all}
 use Rattle.wire.proofs.Writing.{also, wrote-nothing}
-use Rattle.calendar.specs.Answers.{zeroDay}
-use Rattle.zone.specs.Units.{dayNs, instantNumber}
 use Rattle.zone.specs.Answers.{Values}
 use Rattle.records.specs.Layout.{Place, kind}
 use Rattle.answer.specs.Forms.{Side, Cover, Phase, Event, Missing, Gap, Totals, phase, unknown, event, point, day, tally, end, missingAt, coverFields, encode, phaseKind, phaseLength, gapKind, gapLength, eventKind, eventLength, missingKind, missingLength, dayKind, rowLength, tallyKind, rowLength}
@@ -37,15 +35,6 @@ inside {a} {b} {v} {p} {q} {n} h x =
 -- so two in a row need no more than what they left
 pub after : {a b c v w : List ℕ} {p q r n m : ℕ} → Put a p v n b q → Put b q w m c r → ltb 0 m ≡ true → Put a p (v ++ w) (n + m) c r
 after {n = n} {m = m} x y h = let i = inside (ltb-true 0 m h) y in also (n + m) x y refl (omega (arith, x .behind, x .kept))
-
--- ---- an instant's number
-
-pub bits-number : (t : ℕ) → t < 2 ^ 64 → (t + (2 ^ 64 - zeroDay * dayNs)) % 2 ^ 64 ≡ ofZ w64 (instantNumber t)
-bits-number t h = go (ltb t (zeroDay * dayNs)) refl
-  where
-    go : (b : Bool) → ltb t (zeroDay * dayNs) ≡ b → (t + (2 ^ 64 - zeroDay * dayNs)) % 2 ^ 64 ≡ ofZ w64 (instantNumber t)
-    go true e = let l = ltb-true t (zeroDay * dayNs) e in simp e (omega arith)
-    go false e = let l = ltb-false t (zeroDay * dayNs) e in simp e (omega arith)
 
 -- ---- a record's bytes, as the writers write them
 

@@ -15,31 +15,20 @@ ghost use Rattle.answer.specs.Meaning.{phaseOf, eventOf, coverBytes, mis
 use crate::Covered;
 use crate::Phase;
 use crate::fields::*;
-use wire::HALF8;
 use wire::put1;
 use wire::put2;
 use wire::put4;
 use wire::put8;
 use zone::Boundary;
-use zone::INSTANT_ZERO;
 use zone::Instant;
 use zone::Uncertainty;
-
-// 2^64 less the nanoseconds from 1899-12-25 to 1970.
-const FROM_1970: u64 = INSTANT_ZERO + HALF8;
-
-// The bits of an instant's number.
-fn bits(t: Instant) -> u64
-    ensures { λ r. ⌜ r ≡ ofZ w64 (instantNumber (t .0)) ⌝ }
-{
-    std::num::wrapping_add_u64(t.0, FROM_1970)
-}
+use zone::number_bits;
 
 fn put_instant(out: &mut [u8], at: usize, t: Instant) -> usize
     requires { ⌜ Inside at 8 (now out) ⌝ }
     ensures { λ r. ⌜ Put (now (out .entry)) at (bytes 8 (ofZ w64 (instantNumber (t .0)))) 8 (now (out .exit)) r ⌝ }
 {
-    put8(out, at, bits(t))
+    put8(out, at, number_bits(t))
 }
 
 fn put_span(out: &mut [u8], at: usize, start: Instant, end: Instant) -> usize
@@ -92,14 +81,14 @@ fn taken_apart(u: Uncertainty) -> Parts
         },
         Uncertainty::AmbiguousLocalTime(d) => Parts {
             tag: 4,
-            one: bits(d.before),
-            two: bits(d.after),
+            one: number_bits(d.before),
+            two: number_bits(d.after),
             text: 0,
         },
         Uncertainty::NonexistentLocalTime(d) => Parts {
             tag: 5,
-            one: bits(d.before),
-            two: bits(d.after),
+            one: number_bits(d.before),
+            two: number_bits(d.after),
             text: 0,
         },
     }

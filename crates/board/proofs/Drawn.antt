@@ -14,13 +14,12 @@ use Rattle.wire.proofs.Writing.{wrote-length, wrote-wrote, wrote-one, wrote-not
 use Rattle.spans.specs.Spans.{Span, look, Within}
 use Rattle.spans.proofs.Lists.{look-in, look-late, before}
 use Rattle.rows.specs.Rows as Rows
-use Rattle.rows.specs.Rows.{goodRow, segments, segmentsAt}
+use Rattle.rows.specs.Rows.{goodRow, segments, segmentsAt, shownAt}
 use Rattle.rows.specs.Telling.{markOf, segmentOf, spanOf, endOf}
 use Rattle.rows.specs.declared.Shows.{Shows}
 use Rattle.rows.specs.declared.Shows.the-variants.{Phase}
 use Rattle.rows.specs.declared.Segment.{Segment}
 use Rattle.rows.proofs.Laws.{good-within, InRow, row-in, Segmented, row-on, row-split}
-use Rattle.classes.specs.Classes.{shownAt}
 use Rattle.board.specs.Cells.{cellInstant, phaseGlyph, glyph, cellOr, cell, cellsFrom, drawn}
 use Rattle.board.specs.Private.{Good, alike, Filled}
 use Rattle.board.specs.declared.grid.Grid.{Grid}

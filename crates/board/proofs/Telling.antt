@@ -16,7 +16,6 @@ use Rattle.wire.proofs.Signs.{placed-meant}
 use Rattle.zone.specs.declared.Instant.{Instant}
 use Rattle.zone.proofs.Domain.{instantZero}
 use Rattle.records.specs.Book.{inside, instants}
-use Rattle.venue.specs.Opening.{instantOf}
 use Rattle.query.specs.Judging.{windowRefusal, windowOf}
 use Rattle.query.specs.declared.Window.the-variants.{Refused, Between}
 use Rattle.query.proofs.Instants.{instant-meant}
@@ -25,6 +24,7 @@ use Rattle.lend.specs.Lending.{Lent}
 use Rattle.lend.specs.declared.Reply.{Reply}
 use Rattle.lend.proofs.Replies.{lent-refused, lent-short, lent-written, lent-same, lent-reply}
 use Rattle.rows.specs.Rows.{goodRow, segments}
+use Rattle.zone.specs.Units.{instantOf}
 use Rattle.board.specs.Cells.{columnsOf, cellsFrom, markerColumn, gridOf, drawn, text, judgedCells, cellsNumber, cellsAnswer}
 use Rattle.board.specs.Private.{Good}
 use Rattle.board.specs.declared.grid.Grid.{Grid}

@@ -8,11 +8,10 @@ use lib.IntN.{ℤ, pos, negsuc}
 use lib.ListN.{getD}
 use mir.Syntax.{w64}
 use Rattle.wire.specs.Signs.{placed}
-use Rattle.records.specs.Book.{inside, instants, refuse}
+use Rattle.records.specs.Book.{inside, instants, refuse, orThen}
 use Rattle.spans.specs.Spans.{Mark, phase, unknown, Span}
 use Rattle.query.specs.Judging.{windowRefusal}
-use Rattle.rows.specs.Rows.{Seen, segments, rowRefusal}
-use Rattle.classes.specs.Classes.{shownAt}
+use Rattle.rows.specs.Rows.{Seen, segments, rowRefusal, shownAt}
 use Rattle.board.specs.declared.grid.Grid.{Grid}
 
 abbrev pub fewestColumns : ℕ
@@ -76,7 +75,7 @@ judgedCells row columns = refuse (ltb mostColumns (columnsOf columns)) 14 (rowRe
 unfoldable pub cellsNumber : List ℕ → ℤ → ℤ → ℤ → Bool → ℤ → ℕ
 cellsNumber row start end columns marked at =
     refuse (marked && not (inside instants at)) 10
-    (cond (eqb (windowRefusal start end) 0) (judgedCells row columns) (windowRefusal start end))
+    (orThen (windowRefusal start end) (judgedCells row columns))
 
 unfoldable pub cellsAnswer : List ℕ → ℤ → ℤ → ℤ → Bool → ℤ → List ℕ
 cellsAnswer row start end columns marked at = text row (placed w64 start) (placed w64 end) columns marked (placed w64 at)

@@ -10,7 +10,7 @@ use Rattle.records.specs.Book.{trading}
 use Rattle.spans.specs.Spans.{Mark, phase, unknown, Span, look, holds}
 use Rattle.spans.proofs.Lists.{holds-yes, holds-early, holds-late}
 use Rattle.rows.specs.Rows as Rows
-use Rattle.rows.specs.Rows.{segmentsAt}
+use Rattle.rows.specs.Rows.{segmentsAt, shownAt}
 use Rattle.rows.specs.Telling.{markOf, segmentOf, spanOf, endOf, goodOn, markAt, rowsAt}
 use Rattle.rows.specs.declared.Shows.{Shows}
 use Rattle.rows.specs.declared.Shows.the-variants.{Phase}
@@ -19,7 +19,7 @@ use Rattle.rows.proofs.Turns.{mark-holds}
 use Rattle.rows.proofs.Places.{holds as segment-holds, segments-end, mark-end, rows-end, segments-mark, mark-mark, rows-mark}
 use Rattle.rows.proofs.Steps.{Ends, Anew, Sees, Happens, Going, segment-going, event-going}
 use Rattle.answer.specs.Forms.{eventSize}
-use Rattle.classes.specs.Classes.{shownAt, classOf, classAt}
+use Rattle.classes.specs.Classes.{classOf, classAt}
 use Rattle.classes.specs.Reading.{marks, classIn, firstOf, Only, Another}
 use Rattle.classes.specs.declared.Class.{Class}
 use Rattle.classes.specs.declared.Class.the-variants.{Trading, NotTrading, NotKnown, NotShown}

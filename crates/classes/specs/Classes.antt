@@ -9,16 +9,12 @@ use lib.ListN.{length}
 use mir.Syntax.{w64}
 use Rattle.wire.specs.Signs.{placed}
 use Rattle.records.specs.Book.{inside, instants, trading}
-use Rattle.spans.specs.Spans.{Mark, phase, unknown, Span, look}
-use Rattle.rows.specs.Rows.{Seen, Row, goodRow, goodRows, segments, rows}
+use Rattle.spans.specs.Spans.{Mark, phase, unknown, Span}
+use Rattle.rows.specs.Rows.{Seen, Row, goodRow, goodRows, segments, rows, shownAt}
 use Rattle.classes.specs.declared.Class.{Class}
 use Rattle.classes.specs.declared.Class.the-variants.{Trading, NotTrading, NotKnown, NotShown}
 use Rattle.classes.specs.declared.ClassReply.{ClassReply}
 use Rattle.classes.specs.declared.CountReply.{CountReply}
-
--- what the first segment that holds the instant shows
-abbrev pub shownAt : List (Span Seen) → ℕ → Option Mark
-shownAt ss t = look (λ (x : Seen). x .mark) ss t
 
 -- trading, not trading, not known, or not shown where no segment stands
 abbrev pub classOf : Option Mark → Class

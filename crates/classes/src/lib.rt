@@ -5,9 +5,6 @@ mod counting;
 pub use classing::class_answer;
 pub use counting::count_answer;
 
-// Document 01's number of bytes that are no good row.
-pub const BAD_ROW: u32 = 15;
-
 // What a row shows at an instant.
 pub enum Class {
     Trading,

@@ -5,12 +5,12 @@ use mathlib.Core.List.{List, [], _∷_}
 use mathlib.Core.Option.{Option, none, some}
 use lib.Dec.{ltb}
 use Rattle.zone.specs.Zone.{Zone, zoneOf, dateAt, resolve}
-use Rattle.zone.specs.Units.{nearestReading, readingAt}
+use Rattle.zone.specs.Units.{nearestReading, readingAt, instantOf}
 use Rattle.zone.specs.Answers.{taken, uncertain, widestOf}
 use Rattle.zone.specs.declared.Boundary.{Boundary}
 use Rattle.zone.specs.declared.Uncertainty.{Uncertainty}
 use Rattle.records.specs.Records.{Coverage, Rule, Event, Record}
-use Rattle.venue.specs.Opening.{instantOf, offsetOf, atsOf, offsetsOf, rulesOf, eventsOf}
+use Rattle.venue.specs.Opening.{offsetOf, atsOf, offsetsOf, rulesOf, eventsOf}
 use Rattle.venue.specs.Reading.{published}
 use Rattle.spans.specs.Spans.{Span}
 use Rattle.spans.specs.Timeline.{Edge, Venue, Part, pointAt}

@@ -6,12 +6,12 @@ use mathlib.Core.Option.{Option, none, some}
 use lib.IntN.{ℤ, pos}
 use Rattle.wire.specs.Fields.{field, bytes, laid}
 use Rattle.wire.specs.Signs.{meant}
-use Rattle.zone.specs.Units.{secondNs, instantNumber}
+use Rattle.zone.specs.Units.{secondNs, instantNumber, instantOf}
 use Rattle.zone.specs.Zone.{lastOffset, resolve}
 use Rattle.records.specs.Limits.{base}
 use Rattle.records.specs.Records.{Coverage, Record, coverage, transition, rule, body, encode, encodeAll, pointsAt, timesAt}
 use Rattle.records.specs.Book.{badFrame, badFields, numberOf, numberAt, numberFrom, refusal, recordsFrom, records}
-use Rattle.venue.specs.Opening.{instantOf, coverageOf, transitionsOf, rulesOf, eventsOf}
+use Rattle.venue.specs.Opening.{coverageOf, transitionsOf, rulesOf, eventsOf}
 use Rattle.spans.specs.Spans.{keep, look}
 use Rattle.spans.specs.Timeline.{cut, spans, pointAt}
 use Rattle.day.specs.Governing.{governingFrom}

@@ -19,12 +19,13 @@ use Rattle.wire.proofs.Signs.{meant-fits}
 use Rattle.records.specs.Limits.{base}
 use Rattle.records.specs.Book.{refusal}
 use Rattle.records.specs.Valid.{Bytes}
-use Rattle.query.specs.Judging.{windowRefusal, windowNumber}
+use Rattle.query.specs.Judging.{windowRefusal}
 use Rattle.lend.specs.Lending.{verdict, Lent}
 use Rattle.lend.specs.declared.Reply.{Reply}
 use Rattle.rows.specs.Rows.{framed, goodRow, segments}
 use Rattle.timeline.specs.Asking.{windowAnswer}
-use Rattle.timeline.proofs.Row.{row-good}
+use Rattle.timeline_rows.proofs.Row.{row-good}
+use Rattle.book_query.specs.Judging.{windowNumber}
 use Rattle.listing.specs.Listing.{book, start, end, roomNumber, headLine, rowText, listingNumber, listing}
 use Rattle.listing.specs.Private.{Puts, windowText}
 

@@ -18,10 +18,11 @@ use Rattle.spans.specs.Spans.{keep, clip, reach, joined, joinFrom}
 use Rattle.spans.specs.Timeline.{blank, cut, spans, walk, unjoined, timeline}
 use Rattle.day.specs.Governing.{governingFrom}
 use Rattle.events.specs.Happenings.{onDate, onDates, found, byInstant}
-use Rattle.query.specs.Judging.{windowRefusal, windowNumber}
+use Rattle.query.specs.Judging.{windowRefusal}
 use Rattle.answer.specs.Forms as Forms
 use Rattle.rows.specs.Rows.{eventsFrom, segmentsFrom}
 use Rattle.timeline.specs.Asking.{timelineForms, windowAnswer}
+use Rattle.book_query.specs.Judging.{windowNumber}
 use Rattle.listing.specs.Text.{digits, decimal, integer, instant}
 use Rattle.listing.specs.Listing.{headLine, eventLines, allLines, listingNumber, listing}
 

@@ -9,8 +9,8 @@ use mir.Syntax.{w64}
 use Rattle.records.specs.Layout.{Place, kind, then, integer}
 use Rattle.spans.specs.Spans.{Mark, phase, unknown, Span}
 use Rattle.rows.specs.Rows.{Event, Seen, framed, segments}
-use Rattle.query.specs.Judging.{windowNumber}
 use Rattle.timeline.specs.Asking.{windowAnswer}
+use Rattle.book_query.specs.Judging.{windowNumber}
 use Rattle.listing.specs.Text.{decimal, instant, line}
 
 -- ---- the input: kind 33 (L 18: start, end i64 ns), then a book

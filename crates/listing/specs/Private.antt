@@ -7,8 +7,8 @@ use lib.IntN.{ℤ}
 use lib.ListN.{length}
 use Rattle.wire.specs.Fields.{Inside, Put}
 use Rattle.rows.specs.Rows.{segments}
-use Rattle.query.specs.Judging.{windowNumber}
 use Rattle.timeline.specs.Asking.{windowAnswer}
+use Rattle.book_query.specs.Judging.{windowNumber}
 use Rattle.listing.specs.Listing.{roomNumber, rowText, headLine}
 
 -- there is room for a text from `at` on

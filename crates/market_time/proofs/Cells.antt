@@ -14,11 +14,9 @@ use Rattle.wire.proofs.Signs.{placed-meant, order-lt, order-le}
 use Rattle.zone.proofs.Domain.{instantZero, instant-placed}
 use Rattle.records.specs.Records.{Coverage}
 use Rattle.records.specs.Valid.{Bytes}
-use Rattle.venue.specs.Opening.{instantOf}
 use Rattle.spans.specs.Spans.{look}
 use Rattle.query.proofs.Order.{Kept, window-passed}
 use Rattle.rows.specs.Rows as Rows
-use Rattle.query.specs.Judging.{windowNumber}
 use Rattle.timeline.specs.Asking.{windowAnswer}
 use Rattle.point.specs.Asking.{pointAnswer}
 use Rattle.point.specs.Said.{pointSaid}
@@ -26,7 +24,10 @@ use Rattle.plain.specs.Books.{Names, Between, Plain, Agreed}
 use Rattle.board.specs.Cells.{columnsOf, cellInstant, glyph, markerColumn, gridOf, cellsAnswer}
 use Rattle.board.proofs.Columns.{columns-some, floor-less}
 use Rattle.board.proofs.Drawn.{cell-at}
-use Rattle.market_time.proofs.Plain.{passes, shownAt, timeline-is-points}
+use Rattle.zone.specs.Units.{instantOf}
+use Rattle.book_query.specs.Judging.{windowNumber}
+use Rattle.rows.specs.Rows.{shownIn}
+use Rattle.market_time.proofs.Plain.{passes, timeline-is-points}
 
 -- an integer that its instant gives back, placed
 placed-kept : (z : ℤ) → Kept z → (z ≡ meant w64 (instantOf z + instantZero)) × (placed w64 z ≡ instantOf z + instantZero)
@@ -47,9 +48,9 @@ module _ (s : List ℕ) (b : Bytes s) (c : Coverage) (named : Names s c) (start 
   marker = markerColumn (placed w64 start) (placed w64 end) (columnsOf columns) marked (placed w64 at)
 
   pub record CellSays (i : ℕ) : Type 0 where
-    pub drawn : getD (cellsAnswer (windowAnswer s start end) start end columns marked at) (suc i) 0 ≡ glyph (shownAt (windowAnswer s start end) (cellTime i))
+    pub drawn : getD (cellsAnswer (windowAnswer s start end) start end columns marked at) (suc i) 0 ≡ glyph (shownIn (windowAnswer s start end) (cellTime i))
     pub inside : Between start end (cellTime i)
-    pub agrees : Agreed s c (cellTime i) (shownAt (windowAnswer s start end) (cellTime i)) (pointSaid (pointAnswer s (cellTime i)))
+    pub agrees : Agreed s c (cellTime i) (shownIn (windowAnswer s start end) (cellTime i)) (pointSaid (pointAnswer s (cellTime i)))
 
   module _ (i : ℕ) (h : i < columnsOf columns) where
     in-window : Between start end (cellTime i)

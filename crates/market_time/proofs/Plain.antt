@@ -7,29 +7,24 @@ use mathlib.Core.Option.{Option}
 use Prim.Native.Nat.{ℕ}
 use borrow.Author.Tests.{eq-eqb}
 use lib.IntN.{ℤ}
-use mir.Syntax.{w64}
-use Rattle.wire.specs.Signs.{placed}
 use Rattle.records.specs.Limits.{base}
 use Rattle.records.specs.Records.{Coverage}
 use Rattle.records.specs.Book.{refusal, records}
 use Rattle.records.specs.Valid.{Bytes}
-use Rattle.venue.specs.Opening.{instantOf}
-use Rattle.spans.specs.Spans.{Mark, look, segmentAt}
+use Rattle.spans.specs.Spans.{Mark, segmentAt}
 use Rattle.day.specs.Days.{valuesOf}
-use Rattle.query.specs.Judging.{windowRefusal, windowNumber}
-use Rattle.rows.specs.Rows as Rows
+use Rattle.query.specs.Judging.{windowRefusal}
 use Rattle.timeline.specs.Segments.{segments, timelineOf}
 use Rattle.timeline.specs.Asking.{segmentsBy, windowAnswer}
-use Rattle.timeline.proofs.Seen.{row-look}
+use Rattle.timeline_rows.proofs.Seen.{row-look}
 use Rattle.point.specs.Asking.{pointNumber, pointAnswer}
 use Rattle.point.specs.Said.{pointSaid}
 use Rattle.point.proofs.Said.{point-said}
 use Rattle.plain.specs.Books.{Names, Between, window, Plain, Agreed}
 use Rattle.plain.proofs.Books.{in-range, plain-agrees}
-
--- what the first segment of a row that holds the instant shows
-abbrev pub shownAt : List ℕ → ℤ → Option Mark
-shownAt bytes at = look (λ (x : Rows.Seen). x .mark) (Rows.segments bytes) (placed w64 at)
+use Rattle.zone.specs.Units.{instantOf}
+use Rattle.book_query.specs.Judging.{windowNumber}
+use Rattle.rows.specs.Rows.{shownIn}
 
 -- the book names a venue, whose coverage is c, and the window is answered
 module _ (s : List ℕ) (b : Bytes s) (c : Coverage) (named : Names s c) (start end : ℤ) (answered : windowNumber s start end ≡ 0) where
@@ -44,14 +39,14 @@ module _ (s : List ℕ) (b : Bytes s) (c : Coverage) (named : Names s c) (start 
     point-answered =
         ap₂ (λ (q r : Bool). cond q (cond r 0 10) (refusal base s)) (eq-eqb (refusal base s) 0 (named .accepted)) (in-range s c named start end passes at i)
 
-    shown-is : shownAt (windowAnswer s start end) at ≡ segmentAt segments (timelineOf (valuesOf (records s) c) (window start end)) (instantOf at)
+    shown-is : shownIn (windowAnswer s start end) at ≡ segmentAt segments (timelineOf (valuesOf (records s) c) (window start end)) (instantOf at)
     shown-is =
         row-look s start end b (named .accepted) passes at (in-range s c named start end passes at i)
         ∙ ap (λ (o : Option Coverage). segmentAt segments (segmentsBy (records s) (window start end) o) (instantOf at)) (named .coverage)
 
     -- If the window is plain: a phase segment stands at the instant exactly when the point answer is known, with the same phase and evidence;
     -- an unknown segment exactly outside coverage; no segment exactly where coverage holds but no rule governs.
-    pub timeline-is-points : Plain s start end → Agreed s c at (shownAt (windowAnswer s start end) at) (pointSaid (pointAnswer s at))
+    pub timeline-is-points : Plain s start end → Agreed s c at (shownIn (windowAnswer s start end) at) (pointSaid (pointAnswer s at))
     timeline-is-points p =
         subst (λ (o : Option Mark). Agreed s c at o (pointSaid (pointAnswer s at))) (sym shown-is)
         (subst (Agreed s c at (segmentAt segments (timelineOf (valuesOf (records s) c) (window start end)) (instantOf at)))

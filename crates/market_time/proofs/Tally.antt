@@ -9,20 +9,19 @@ use native.Mathlib.Omega.{arith}
 use borrow.Author.Tests.{eqb-true, ltb-true, ltb-false}
 use lib.Dec.{ltb, eqb}
 use lib.IntN.{ℤ}
-use Rattle.zone.specs.Units.{dayNs, instantNumber}
+use Rattle.zone.specs.Units.{dayNs, instantNumber, instantOf}
 use Rattle.zone.specs.Zone.{dateAt}
 use Rattle.calendar.specs.Answers.{zeroDay}
 use Rattle.records.specs.Limits.{base}
 use Rattle.records.specs.Records.{Coverage}
 use Rattle.records.specs.Book.{refusal, records}
 use Rattle.records.specs.Valid.{Bytes}
-use Rattle.venue.specs.Opening.{instantOf}
 use Rattle.spans.specs.Spans.{Mark, Span}
 use Rattle.spans.specs.Timeline.{Part, inside}
 use Rattle.spans.specs.Totals.{isPhase, count, shows, free, total}
 use Rattle.spans.proofs.Totals.{same-count}
 use Rattle.day.specs.Days.{Values, valuesOf, pointOf}
-use Rattle.query.specs.Judging.{windowRefusal, windowNumber}
+use Rattle.query.specs.Judging.{windowRefusal}
 use Rattle.query.proofs.Order.{window-passed}
 use Rattle.answer.specs.Forms.{Form, day, tally, encodeAll}
 use Rattle.answer.specs.Meaning.{totalsOf}
@@ -36,6 +35,7 @@ use Rattle.plain.specs.Books.{Names, window, Plain}
 use Rattle.plain.proofs.Tallied.{phase-instants, outside-instants, hole-instants}
 use Rattle.pages.specs.Rows.{rowEnd, rowsFrom, rowsOf, rowTotals, dayForm, formsBy}
 use Rattle.tally.specs.Tallying.{tallyAnswer, tooLong, tallyNumber}
+use Rattle.book_query.specs.Judging.{windowNumber}
 
 -- an instant's number, turned back
 number-instant : (t : ℕ) → instantOf (instantNumber t) ≡ t

@@ -13,7 +13,7 @@ use lib.Signed.{ltZ, leZ}
 use Rattle.records.specs.Limits.{base}
 use Rattle.records.specs.Records.{Coverage, Point, Record, coverageAt}
 use Rattle.records.specs.Book.{inside, instants, refusal, records}
-use Rattle.venue.specs.Opening.{instantOf, coverageOf, headerOf}
+use Rattle.venue.specs.Opening.{coverageOf, headerOf}
 use Rattle.venue.specs.Reading.{FromMidnight}
 use Rattle.venue.proofs.Laws.{good-coverage, covered}
 use Rattle.venue.proofs.Known.{Known, start-number, end-number}
@@ -29,6 +29,7 @@ use Rattle.tell.specs.Shown.{Shown, shown}
 use Rattle.timeline.specs.Segments.{markOf, segments, showing, timelineOf}
 use Rattle.timeline.proofs.Parts.{merges}
 use Rattle.point.specs.Said.{pointMark}
+use Rattle.zone.specs.Units.{instantOf}
 use Rattle.plain.specs.Plain.{PlainDate, PlainWindow, Accepted, Covered, Agrees}
 use Rattle.plain.specs.Books.{Names, Between, window, PlainFor, Plain, Agreed}
 use Rattle.plain.proofs.Agreeing.{plain}

@@ -15,13 +15,14 @@ use Rattle.zone.specs.Throughout.{readsThroughout}
 use Rattle.zone.proofs.Throughout.{reads-all, all-read}
 use Rattle.records.specs.Records.{Point, Rule, Coverage, ruleAt}
 use Rattle.records.specs.Book.{records}
-use Rattle.venue.specs.Opening.{instantOf, coverageOf, atsOf, offsetsOf, rulePlaces}
+use Rattle.venue.specs.Opening.{coverageOf, atsOf, offsetsOf, rulePlaces}
 use Rattle.venue.specs.declared.opened.Header.{Header}
 use Rattle.venue.proofs.Known.{Known}
 use Rattle.spans.specs.Timeline.{Venue, Part, midnight}
 use Rattle.day.specs.Governing.{governing}
 use Rattle.day.specs.Days.{Values, Held, valuesOf, venueBy, venueOf}
 use Rattle.day.proofs.Opened.{opened-values}
+use Rattle.zone.specs.Units.{instantOf}
 use Rattle.plain.specs.Plain.{Rises, InOrder, PlainDate, PlainWindow}
 use Rattle.plain.specs.Books.{window, PlainFor, Plain}
 use Rattle.plain.specs.Deciding.{Decides, rises, inOrder, plainDate, reaches, mostDates, plainFrom, plainWindow, plainFor, plain}

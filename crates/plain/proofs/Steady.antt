@@ -10,14 +10,14 @@ use lib.IntN.{ℤ, pos, negsuc}
 use lib.Signed.{leZ}
 use Rattle.wire.proofs.Signs.{and-true}
 use Rattle.calendar.specs.Answers.{firstDay, lastDay}
-use Rattle.zone.specs.Units.{secondNs, dayNs, mostOffset, mostNs, offsetNs, nearestInstant, nearestReading, readingAt, readingDay}
+use Rattle.zone.specs.Units.{secondNs, dayNs, mostOffset, mostNs, offsetNs, nearestInstant, nearestReading, readingAt, readingDay, instantOf, secondsInstant}
 use Rattle.zone.specs.Zone.{Zone, zoneOf, changesOf, lastOffset, offsetAt, dateAt, readingOf, instantBy, resolve}
 use Rattle.zone.specs.Answers.{Valid, taken}
 use Rattle.zone.proofs.Offsets.{offset-most}
 use Rattle.zone.proofs.Readings.{resolve-steady}
 use Rattle.records.specs.Records.{Coverage, Transition, Point, Rule}
 use Rattle.records.specs.Book.{inside, instants, records}
-use Rattle.venue.specs.Opening.{instantOf, secondsInstant, offsetOf, transitionsOf, rulesOf, atsOf, offsetsOf}
+use Rattle.venue.specs.Opening.{offsetOf, transitionsOf, rulesOf, atsOf, offsetsOf}
 use Rattle.venue.specs.Reading.{Rising, FromMidnight, EachPoint, GoodRule}
 use Rattle.venue.proofs.Laws.{zone-valid}
 use Rattle.spans.specs.Timeline.{Venue, Part, midnight}

@@ -5,7 +5,7 @@ use mathlib.Core.List.{List, [], _∷_, map}
 use Prim.Native.Nat.{ℕ}
 use native.Mathlib.Omega.{arith}
 use borrow.Author.Tests.{ltb-true}
-use Rattle.venue.specs.Opening.{instantOf}
+use Rattle.zone.specs.Units.{instantOf}
 use Rattle.plain.specs.Deciding.{Decides}
 use Rattle.plain.specs.Examples.{Case, table, bytesOf, startOf, endOf, told, answers, forward, forwards, Says, Each, Holds}
 use Rattle.plain.proofs.Deciding.{book-decides}

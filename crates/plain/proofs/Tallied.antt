@@ -8,7 +8,6 @@ use lib.IntN.{ℤ}
 use Rattle.zone.specs.Zone.{dateAt}
 use Rattle.records.specs.Records.{Coverage}
 use Rattle.records.specs.Book.{records}
-use Rattle.venue.specs.Opening.{instantOf}
 use Rattle.spans.specs.Spans.{Span}
 use Rattle.spans.specs.Timeline.{Venue, inside, pointAt}
 use Rattle.spans.specs.Totals.{isPhase, isUnknown, anyMark, total, count, shows, free}
@@ -19,6 +18,7 @@ use Rattle.query.proofs.Order.{window-passed}
 use Rattle.tell.specs.Shown.{Shown}
 use Rattle.timeline.specs.Segments.{markOf, segments, showing, timelineOf}
 use Rattle.point.specs.Said.{pointMark}
+use Rattle.zone.specs.Units.{instantOf}
 use Rattle.plain.specs.Plain.{PlainWindow}
 use Rattle.plain.specs.Books.{Names, window, PlainFor, Plain}
 use Rattle.plain.proofs.Totals.{phase-total, outside-total, hole-total}

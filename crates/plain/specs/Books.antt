@@ -12,10 +12,11 @@ use Rattle.zone.specs.Zone.{dateAt}
 use Rattle.records.specs.Limits.{base}
 use Rattle.records.specs.Records.{Coverage, Record}
 use Rattle.records.specs.Book.{refusal, records}
-use Rattle.venue.specs.Opening.{instantOf, coverageOf}
+use Rattle.venue.specs.Opening.{coverageOf}
 use Rattle.spans.specs.Spans.{Mark, phase, unknown}
 use Rattle.spans.specs.Timeline.{Part}
 use Rattle.day.specs.Days.{Values, valuesOf, venueOf}
+use Rattle.zone.specs.Units.{instantOf}
 use Rattle.plain.specs.Plain.{PlainWindow}
 
 -- the book is accepted and names a venue, whose coverage is c: so does every accepted book but that of zero bytes

@@ -7,14 +7,14 @@ use lib.Dec.{ltb}
 use lib.IntN.{ℤ, pos, negsuc}
 use Rattle.wire.specs.Fields.{field, bytes, laid}
 use Rattle.wire.specs.Signs.{meant}
-use Rattle.zone.specs.Units.{secondNs}
+use Rattle.zone.specs.Units.{secondNs, instantOf}
 use Rattle.zone.specs.Zone.{lastOffset, resolve}
 use Rattle.zone.specs.Throughout.{readsChanges, readsThroughout}
 use Rattle.records.specs.Limits.{base}
 use Rattle.records.specs.Records.{Point, Record, coverage, transition, rule, body, encode, encodeAll, pointsAt, timesAt}
 use Rattle.records.specs.Examples.{bookA}
 use Rattle.records.specs.Book.{badFrame, badFields, numberOf, numberAt, numberFrom, refusal, recordsFrom, records}
-use Rattle.venue.specs.Opening.{instantOf, transitionsOf, rulesOf, eventsOf}
+use Rattle.venue.specs.Opening.{transitionsOf, rulesOf, eventsOf}
 use Rattle.query.specs.Judging.{windowRefusal}
 use Rattle.day.specs.Governing.{governingFrom}
 use Rattle.plain.specs.Books.{Plain}

@@ -7,11 +7,11 @@ use Prim.Native.Nat.{ℕ}
 use native.Mathlib.Omega.{arith}
 use borrow.Author.Tests.{eq-eqb, ne-eqb}
 use lib.IntN.{ℤ}
-use Rattle.zone.specs.Units.{instantNumber}
+use Rattle.zone.specs.Units.{instantNumber, instantOf}
 use Rattle.records.specs.Limits.{base}
 use Rattle.records.specs.Records.{Coverage}
 use Rattle.records.specs.Book.{inside, instants, refusal, records}
-use Rattle.venue.specs.Opening.{instantOf, opened}
+use Rattle.venue.specs.Opening.{opened}
 use Rattle.venue.specs.declared.opened.Header.{Header}
 use Rattle.venue.specs.declared.opened.Opened.the-variants.{Refused, Empty}
 use Rattle.venue.proofs.Known.{opened-refused, opened-empty, Known, start-number, end-number}

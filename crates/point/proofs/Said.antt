@@ -14,13 +14,14 @@ use Rattle.records.specs.Records.{Coverage, Rule, put, putSigned}
 use Rattle.records.specs.Book.{refusal, records}
 use Rattle.records.specs.Valid.{Bytes}
 use Rattle.records.proofs.Laid.{span, laid-length, laid-says}
-use Rattle.venue.specs.Opening.{instantOf, coverageOf}
+use Rattle.venue.specs.Opening.{coverageOf}
 use Rattle.spans.specs.Spans.{phase}
 use Rattle.day.specs.Days.{Held, valuesOf, pointOf}
 use Rattle.day.proofs.Theorems.{point-whole}
 use Rattle.day.proofs.Listed.{governing-listed, source-good, span-under}
 use Rattle.answer.specs.Forms as Forms
 use Rattle.answer.specs.Forms.{Missing, fieldsOf, phasePlace, evidencePlace, encode, encodeAll, phaseKind}
+use Rattle.zone.specs.Units.{instantOf}
 use Rattle.point.specs.Asking.{byPoint, byCoverage, pointAnswer}
 use Rattle.point.specs.Said.{pointMark, pointSaid}
 

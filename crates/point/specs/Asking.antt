@@ -1,21 +1,21 @@
 -- The point answer in bytes: which number a question gets, and what is answered. Assumes nothing.
 use Prim.Native.Nat.{ℕ}
-use mathlib.Core.Bool.{cond}
 use mathlib.Core.List.{List, [], _∷_}
 use mathlib.Core.Option.{Option, none, some}
-use lib.Dec.{eqb}
 use lib.IntN.{ℤ}
 use Rattle.records.specs.Limits.{base}
 use Rattle.records.specs.Records.{Coverage, Record}
-use Rattle.records.specs.Book.{inside, instants, refusal, records}
-use Rattle.venue.specs.Opening.{instantOf, coverageOf}
+use Rattle.records.specs.Book.{refusal, records, orThen}
+use Rattle.venue.specs.Opening.{coverageOf}
 use Rattle.day.specs.Days.{Values, Held, valuesOf, pointOf}
 use Rattle.answer.specs.Forms.{Cover, Form, point, encodeAll}
 use Rattle.tell.specs.Shown.{shown, shownForms}
+use Rattle.zone.specs.Units.{instantOf}
+use Rattle.query.specs.Judging.{instantRefusal}
 
 -- the book's number, else 10 for an instant outside its range
 unfoldable pub pointNumber : List ℕ → ℤ → ℕ
-pointNumber s n = cond (eqb (refusal base s) 0) (cond (inside instants n) 0 10) (refusal base s)
+pointNumber s n = orThen (refusal base s) (instantRefusal n)
 
 -- a known point: its whole span as start and end, with its events behind it
 abbrev pub knownForms : Values → Held → List Form

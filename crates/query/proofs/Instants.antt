@@ -14,13 +14,12 @@ use mir.ValLaws.{toZ-ofZ}
 use Rattle.wire.specs.Signs.{half, placed, meant}
 use Rattle.wire.proofs.Signs.{and-true, meant-placed, since-meant}
 use Rattle.calendar.specs.Answers.{zeroDay}
-use Rattle.zone.specs.Units.{secondNs, dayNs, instantNumber}
+use Rattle.zone.specs.Units.{secondNs, dayNs, instantNumber, instantOf}
 use Rattle.zone.specs.declared.Instant.{Instant}
 use Rattle.zone.proofs.Domain.{instantZero, instant-placed}
 use Rattle.records.specs.Book.{inside, instants}
 use Rattle.records.proofs.Tests.{outside-test, inside-range}
-use Rattle.venue.specs.Opening.{instantOf}
-use Rattle.query.specs.Judging.{queried}
+use Rattle.query.specs.Judging.{queried, instantRefusal}
 use Rattle.query.specs.declared.Asked.{Asked}
 use Rattle.query.specs.declared.Asked.the-variants.{Outside, At}
 
@@ -42,6 +41,10 @@ or-right : (a b : Bool) → b ≡ true → (a || b) ≡ true
 or-right true b e = refl
 or-right false b e = e
 
+-- what a query at n is answered
+abbrev pub answerTo : ℤ → Option ℕ
+answerTo n = cond (inside instants n) (some (instantOf n)) none
+
 -- ---- as the code judges it
 
 module _ (n : ℤ) (f : SFits w64 n) (p : ℕ) (e : p ≡ placed w64 n) where
@@ -52,23 +55,24 @@ module _ (n : ℤ) (f : SFits w64 n) (p : ℕ) (e : p ≡ placed w64 n) where
   unfolding meant
   out t = ap (inside instants) (sym is) ∙ not-true (inside instants (meant w64 p)) (sym t ∙ outside-test w64 low high p)
 
-  pub too-early : p < low → none ≡ cond (inside instants n) (some (instantOf n)) none
-  too-early h = sym (ap (λ (b : Bool). cond b (some (instantOf n)) none) (out (or-left (ltb p low) (ltb high p) (lt-ltb p low h))))
+  -- the answers to n, where it is outside and where it is in range
+  outside : inside instants n ≡ false → (10 ≡ instantRefusal n) × (none ≡ answerTo n)
+  outside e = (sym (ap (λ (b : Bool). cond b 0 10) e), sym (ap (λ (b : Bool). cond b (some (instantOf n)) none) e))
 
-  pub too-late : high < p → none ≡ cond (inside instants n) (some (instantOf n)) none
-  too-late h = sym (ap (λ (b : Bool). cond b (some (instantOf n)) none) (out (or-right (ltb p low) (ltb high p) (lt-ltb high p h))))
+  pub too-early : p < low → (10 ≡ instantRefusal n) × (none ≡ answerTo n)
+  too-early h = outside (out (or-left (ltb p low) (ltb high p) (lt-ltb p low h)))
 
-  pub in-range : low ≤ p → p ≤ high → some (p - instantZero) ≡ cond (inside instants n) (some (instantOf n)) none
+  pub too-late : high < p → (10 ≡ instantRefusal n) × (none ≡ answerTo n)
+  too-late h = outside (out (or-right (ltb p low) (ltb high p) (lt-ltb high p h)))
+
+  pub in-range : low ≤ p → p ≤ high → {a : ℕ} → a ≡ instantOf (meant w64 p) → (0 ≡ instantRefusal n) × (some a ≡ answerTo n)
   unfolding meant
-  in-range a b =
+  in-range a b i =
       let t : inside instants (meant w64 p) ≡ true = not-false _ (sym (outside-test w64 low high p) ∙ ap₂ _||_ (le-ltb p low a) (le-ltb high p b)) in
-      let i : instantOf n ≡ p - instantZero = ap instantOf (sym is) ∙ since-meant w64 (zeroDay * dayNs) p (omega arith) (omega arith) in
-      ap some (sym i) ∙ sym (ap (λ (b : Bool). cond b (some (instantOf n)) none) (ap (inside instants) (sym is) ∙ t))
+      let z : inside instants n ≡ true = ap (inside instants) (sym is) ∙ t in
+      (sym (ap (λ (b : Bool). cond b 0 10) z), ap some (i ∙ ap instantOf is) ∙ sym (ap (λ (b : Bool). cond b (some (instantOf n)) none) z))
 
 -- ---- as a caller is told of it
-
-abbrev pub answerTo : ℤ → Option ℕ
-answerTo n = cond (inside instants n) (some (instantOf n)) none
 
 module _ (n : ℤ) (f : SFits w64 n) {r : Asked} (e : queried r ≡ answerTo (toZ w64 (ofZ w64 n))) where
   pub asked-outside : r ≡ Outside → inside instants n ≡ false
@@ -104,9 +108,17 @@ module _ (n : ℤ) (t : inside instants n ≡ true) where
   pub instant-meant : meant w64 (instantOf n + instantZero) ≡ n
   instant-meant =
       let i : instantOf n ≡ placed w64 n - instantZero =
-      ap instantOf (sym back) ∙ since-meant w64 (zeroDay * dayNs) (placed w64 n) (omega arith) (omega (arith, placed-low)) in
+      ap instantOf (sym back) ∙ since-meant w64 (zeroDay * dayNs) (placed w64 n) (omega arith) in
       let j : instantOf n + instantZero ≡ placed w64 n = omega (arith, placed-low) in
       ap (meant w64) j ∙ back
 
   pub number-back : instantNumber (instantOf n) ≡ n
   number-back = instant-placed (instantOf n) ∙ instant-meant
+
+-- ---- no second answer fits
+
+pub asked-once : (r s : Asked) → queried r ≡ queried s → r ≡ s
+asked-once Outside Outside e = refl
+asked-once Outside (At t) e = absurd (let y : _≡_ {A = ℕ} 0 1 = cc in omega arith)
+asked-once (At t) Outside e = absurd (let y : _≡_ {A = ℕ} 0 1 = cc in omega arith)
+asked-once (At t) (At u) e = let same : t .0 ≡ u .0 = cc in ap (λ (x : ℕ). At (record { 0 = x })) same

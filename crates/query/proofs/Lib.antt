@@ -1,4 +1,3 @@
 pub mod Instants
 pub mod Windows
 pub mod Order
-pub mod Books

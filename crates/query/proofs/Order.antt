@@ -10,11 +10,10 @@ use lib.Signed.{ltZ, leZ}
 use mir.Syntax.{w64}
 use Rattle.wire.specs.Signs.{meant}
 use Rattle.wire.proofs.Signs.{and-true, order-lt, order-le}
-use Rattle.zone.specs.Units.{instantNumber}
+use Rattle.zone.specs.Units.{instantNumber, instantOf}
 use Rattle.zone.specs.declared.Instant.{Instant}
 use Rattle.zone.proofs.Domain.{instantZero, instant-placed}
 use Rattle.records.specs.Book.{Range, inside, instants}
-use Rattle.venue.specs.Opening.{instantOf}
 use Rattle.query.specs.Judging.{windowRefusal, windowOf}
 use Rattle.query.specs.declared.Window.the-variants.{Refused, Between}
 use Rattle.query.proofs.Instants.{number-back}

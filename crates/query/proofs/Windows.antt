@@ -9,12 +9,11 @@ use lib.IntN.{ℤ}
 use lib.Signed.{ltZ, leZ}
 use mir.Syntax.{w64}
 use Rattle.wire.proofs.Signs.{order-lt, order-le}
-use Rattle.zone.specs.Units.{instantNumber}
+use Rattle.zone.specs.Units.{instantNumber, instantOf}
 use Rattle.zone.specs.declared.Instant.{Instant}
 use Rattle.zone.proofs.Domain.{instantZero}
 use Rattle.records.specs.Book.{inside, instants, refuse}
-use Rattle.venue.specs.Opening.{instantOf}
-use Rattle.query.specs.Judging.{windowRefusal, windowOf}
+use Rattle.query.specs.Judging.{windowRefusal, windowOf, numberWindow}
 use Rattle.query.specs.declared.Window.{Window}
 use Rattle.query.specs.declared.Window.the-variants.{Refused, Between}
 use Rattle.query.proofs.Instants.{instant-meant, number-back}
@@ -70,10 +69,6 @@ module _ (m n : ℤ) where
 abbrev caseOf : Window → ℕ
 caseOf (Refused k) = 0
 caseOf (Between a b) = 1
-
-abbrev numberIn : Window → ℕ
-numberIn (Refused k) = k
-numberIn (Between a b) = 0
 
 abbrev startIn : Window → ℕ
 startIn (Refused k) = 0
@@ -137,4 +132,17 @@ module _ (m n : ℤ) where
           → Refused k ≡ cond x (Between (record { 0 = instantOf m }) (record { 0 = instantOf n })) (Refused (windowRefusal m n))
           → (k ≡ windowRefusal m n) × (k ≡ 0 → ⊥)
       go true i q = absurd (let y = ap caseOf q in omega arith)
-      go false i q = let r : k ≡ windowRefusal m n = ap numberIn q in (r, λ z. eqb-false (windowRefusal m n) 0 i (sym r ∙ z))
+      go false i q = let r : k ≡ windowRefusal m n = ap numberWindow q in (r, λ z. eqb-false (windowRefusal m n) 0 i (sym r ∙ z))
+
+  -- the number of the answer
+  pub window-number : numberWindow (windowOf m n) ≡ windowRefusal m n
+  unfolding windowOf
+  window-number = go (eqb (windowRefusal m n) 0) refl
+    where
+      go : (x : Bool) → eqb (windowRefusal m n) 0 ≡ x
+          → numberWindow (cond x (Between (record { 0 = instantOf m }) (record { 0 = instantOf n })) (Refused (windowRefusal m n))) ≡ windowRefusal m n
+      go true i = sym (eqb-true (windowRefusal m n) 0 i)
+      go false i = refl
+
+  pub numbered : {w : Window} → w ≡ windowOf m n → (numberWindow w ≡ windowRefusal m n) × (w ≡ windowOf m n)
+  numbered e = (ap numberWindow e ∙ window-number, e)

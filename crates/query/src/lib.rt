@@ -3,8 +3,6 @@ mod judge;
 
 pub use judge::asked_at;
 pub use judge::asked_window;
-pub use judge::judged_window;
-use venue::Header;
 use zone::Instant;
 
 // Document 01's numbers.
@@ -24,11 +22,4 @@ pub enum Asked {
 pub enum Window {
     Refused(u32),
     Between(Instant, Instant),
-}
-
-// A window asked of a book that was opened: a number refuses one of the two, or the book is a venue without data, or it names one.
-pub enum Judged {
-    Refused(u32),
-    Blank(Instant, Instant),
-    Venue(Header, Instant, Instant),
 }

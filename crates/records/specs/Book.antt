@@ -187,6 +187,10 @@ tooClose before (event e) = false
 abbrev pub refuse : Bool → ℕ → ℕ → ℕ
 refuse test n others = cond test n others
 
+-- the number n, and where that is 0 what comes after it
+abbrev pub orThen : ℕ → ℕ → ℕ
+orThen n others = cond (eqb n 0) others n
+
 -- of a record, after those before it, the latest first
 unfoldable pub numberOf : Limits → List Record → Record → ℕ
 numberOf l before r =

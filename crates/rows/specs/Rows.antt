@@ -6,11 +6,13 @@ use mathlib.Core.List.{List, [], _∷_}
 use lib.Dec.{ltb, leb, eqb}
 use lib.ListN.{length}
 use mir.Syntax.{w64}
-use Rattle.wire.specs.Signs.{turned}
+use Rattle.wire.specs.Signs.{turned, placed}
 use Rattle.records.specs.Layout.{Place, number, size, kind}
-use Rattle.spans.specs.Spans.{Mark, phase, unknown, Span}
+use Rattle.spans.specs.Spans.{Mark, phase, unknown, Span, look}
 use Rattle.answer.specs.Forms
 use Rattle.answer.specs.Forms.{phaseKind, phaseLength, gapKind, gapLength, eventKind, eventLength, markKind, markLength, phaseSize, gapSize, eventSize, markSize}
+use mathlib.Core.Option.{Option}
+use lib.IntN.{ℤ}
 
 -- ---- the fields of a record at `at`
 
@@ -163,6 +165,14 @@ segmentsAt s at = segmentsFrom (left s at) s at
 -- a row's segments
 abbrev pub segments : List ℕ → List (Span Seen)
 segments s = segmentsAt s 0
+
+-- what the first segment that holds an instant shows
+abbrev pub shownAt : List (Span Seen) → ℕ → Option Mark
+shownAt ss t = look (λ (x : Seen). x .mark) ss t
+
+-- of a row's bytes, at document 01's number of an instant
+abbrev pub shownIn : List ℕ → ℤ → Option Mark
+shownIn s at = shownAt (segments s) (placed w64 at)
 
 -- a row that a mark begins
 pub record Row : Type 0 where

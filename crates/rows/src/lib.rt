@@ -10,6 +10,9 @@ pub use reading::event_at;
 pub use reading::segment_at;
 use wire::Placed;
 
+// Document 01's number of bytes that are no good row.
+pub const BAD_ROW: u32 = 15;
+
 // What stands at a place: nothing that may stand there, the end, a row's mark, a segment, or an event of the last phase.
 pub enum Stands {
     Bad,

@@ -13,17 +13,17 @@ use Rattle.wire.specs.Fields.{Put}
 use Rattle.zone.specs.declared.Instant.{Instant}
 use Rattle.records.specs.Records.{Coverage}
 use Rattle.records.specs.Book.{records}
-use Rattle.venue.specs.Opening.{instantOf, opened}
+use Rattle.venue.specs.Opening.{opened}
 use Rattle.venue.specs.declared.opened.Header.{Header}
 use Rattle.venue.proofs.Laws.{good-coverage}
 use Rattle.venue.proofs.Known.{Known}
 use Rattle.spans.specs.Spans.{Mark, Span}
 use Rattle.spans.specs.Timeline.{Part, blank}
 use Rattle.day.specs.Days.{Values, valuesOf}
-use Rattle.query.specs.Judging.{windowOf, windowNumber, judgedBy}
-use Rattle.query.specs.declared.Judged.the-variants.{Refused}
+use Rattle.query.specs.Judging.{windowOf}
+use Rattle.book_query.specs.declared.Judged.the-variants.{Refused}
 use Rattle.query.proofs.Windows.{Windowed}
-use Rattle.query.proofs.Books.{Blanked, Named, judged-refused}
+use Rattle.book_query.proofs.Books.{Blanked, Named, judged-refused}
 use Rattle.answer.specs.Forms.{encodeAll, rowSize}
 use Rattle.lend.specs.Lending.{Lent}
 use Rattle.lend.specs.declared.Reply.{Reply}
@@ -31,6 +31,8 @@ use Rattle.lend.proofs.Replies.{lent-refused, lent-short, lent-written, lent-sa
 use Rattle.timeline.specs.Segments.{segments, timelineOf}
 use Rattle.timeline.specs.Asking.{segmentsBy}
 use Rattle.pages.specs.Rows.{rowsOf, formsBy, mostNs}
+use Rattle.zone.specs.Units.{instantOf}
+use Rattle.book_query.specs.Judging.{windowNumber, judgedBy}
 use Rattle.tally.specs.Tallying.{tallyAnswer, tooLong, tallyNumber}
 use Rattle.pages.specs.Pages.{marks, rawForms}
 use Rattle.tally.specs.Private.{rawBlank, rawOf}

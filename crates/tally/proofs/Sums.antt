@@ -9,12 +9,12 @@ use native.Mathlib.Decide.{decLe}
 use borrow.Author.Tests.{ltb-false}
 use lib.Dec.{ltb}
 use lib.IntN.{ℤ}
-use Rattle.zone.specs.Units.{dayNs}
+use Rattle.zone.specs.Units.{dayNs, instantOf}
 use Rattle.records.specs.Limits.{base}
 use Rattle.records.specs.Records.{Coverage}
 use Rattle.records.specs.Book.{refusal, records}
 use Rattle.records.specs.Valid.{Bytes}
-use Rattle.venue.specs.Opening.{instantOf, coverageOf}
+use Rattle.venue.specs.Opening.{coverageOf}
 use Rattle.spans.specs.Spans.{Mark, phase, unknown, Span, Body, look, Within}
 use Rattle.spans.specs.Timeline.{Part, blank}
 use Rattle.spans.specs.Totals.{isPhase, isUnknown, anyMark, total, bit, count, shows}

@@ -15,9 +15,10 @@ use Rattle.spans.specs.Spans.{keep, clip, reach, joined, joinFrom}
 use Rattle.spans.specs.Timeline.{cut, spans, walk, unjoined, timeline}
 use Rattle.spans.specs.Totals.{total}
 use Rattle.day.specs.Governing.{governingFrom}
-use Rattle.query.specs.Judging.{windowRefusal, windowNumber}
+use Rattle.query.specs.Judging.{windowRefusal}
 use Rattle.answer.specs.Forms.{day, tally}
 use Rattle.pages.specs.Rows.{rowsFrom}
+use Rattle.book_query.specs.Judging.{windowNumber}
 use Rattle.tally.specs.Tallying.{tallyForms, tallyNumber}
 
 abbrev book : List ℕ

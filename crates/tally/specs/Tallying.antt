@@ -2,14 +2,15 @@
 use Prim.Native.Nat.{ℕ, _-_}
 use mathlib.Core.Bool.{cond}
 use mathlib.Core.List.{List}
-use lib.Dec.{ltb, eqb}
+use lib.Dec.{ltb}
 use lib.IntN.{ℤ}
-use Rattle.venue.specs.Opening.{instantOf}
 use Rattle.answer.specs.Forms.{Form, encodeAll}
 use Rattle.timeline.specs.Segments.{segments}
-use Rattle.query.specs.Judging.{windowNumber}
 use Rattle.timeline.specs.Asking.{segmentsOf}
 use Rattle.pages.specs.Rows.{formsBy, mostNs}
+use Rattle.zone.specs.Units.{instantOf}
+use Rattle.book_query.specs.Judging.{windowNumber}
+use Rattle.records.specs.Book.{orThen}
 
 abbrev pub tallyForms : List ℕ → ℤ → ℤ → List Form
 tallyForms s start end =
@@ -24,4 +25,4 @@ tooLong start end = cond (ltb mostNs (end - start)) 13 0
 
 -- the book's number, else the window's: 10, 11, 12; else 13
 unfoldable pub tallyNumber : List ℕ → ℤ → ℤ → ℕ
-tallyNumber s start end = cond (eqb (windowNumber s start end) 0) (tooLong (instantOf start) (instantOf end)) (windowNumber s start end)
+tallyNumber s start end = orThen (windowNumber s start end) (tooLong (instantOf start) (instantOf end))

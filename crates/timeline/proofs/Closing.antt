@@ -7,21 +7,23 @@ use lib.IntN.{ℤ}
 use Rattle.zone.specs.declared.Instant.{Instant}
 use Rattle.records.specs.Records.{Coverage}
 use Rattle.records.specs.Book.{records}
-use Rattle.venue.specs.Opening.{instantOf, opened}
+use Rattle.venue.specs.Opening.{opened}
 use Rattle.venue.specs.declared.opened.Header.{Header}
 use Rattle.venue.proofs.Laws.{good-coverage}
 use Rattle.venue.proofs.Known.{Known, start-number, end-number}
 use Rattle.spans.specs.Timeline.{Part, blank}
 use Rattle.day.specs.Days.{Values, valuesOf}
-use Rattle.query.specs.Judging.{windowOf, windowNumber, judgedBy}
-use Rattle.query.specs.declared.Judged.the-variants.{Refused}
-use Rattle.query.proofs.Books.{Blanked, Named, judged-refused}
+use Rattle.query.specs.Judging.{windowOf}
+use Rattle.book_query.specs.declared.Judged.the-variants.{Refused}
+use Rattle.book_query.proofs.Books.{Blanked, Named, judged-refused}
 use Rattle.answer.specs.Forms.{Cover, encodeAll}
 use Rattle.answer.specs.Meaning.{coverOf}
 use Rattle.answer.specs.declared.Covered.the-variants.{Between}
 use Rattle.lend.specs.Lending.{Lent}
 use Rattle.lend.specs.declared.Reply.{Reply}
 use Rattle.lend.proofs.Replies.{lent-refused, lent-same, lent-reply}
+use Rattle.zone.specs.Units.{instantOf}
+use Rattle.book_query.specs.Judging.{windowNumber, judgedBy}
 use Rattle.timeline.specs.Segments.{timelineOf}
 use Rattle.timeline.specs.Asking.{timelineForms, byCoverage, windowForms, windowAnswer}
 use Rattle.timeline.specs.Private.{gapForms, told}

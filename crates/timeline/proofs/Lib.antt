@@ -2,5 +2,3 @@ pub mod Parts
 pub mod Closing
 pub mod Shape
 pub mod Bounds
-pub mod Row
-pub mod Seen

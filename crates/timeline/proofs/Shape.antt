@@ -10,7 +10,7 @@ use lib.IntN.{ℤ}
 use Rattle.records.specs.Limits.{base}
 use Rattle.records.specs.Records.{Coverage, Record}
 use Rattle.records.specs.Book.{refusal, records}
-use Rattle.venue.specs.Opening.{instantOf, coverageOf}
+use Rattle.venue.specs.Opening.{coverageOf}
 use Rattle.venue.proofs.Laws.{good-coverage}
 use Rattle.spans.specs.Spans.{Span, keep, Within, Apart}
 use Rattle.spans.specs.Timeline.{Part, unjoined, timeline, blank}
@@ -20,6 +20,7 @@ use Rattle.day.specs.Days.{valuesOf}
 use Rattle.query.specs.Judging.{windowRefusal}
 use Rattle.query.proofs.Order.{window-passed}
 use Rattle.tell.specs.Shown.{Shown}
+use Rattle.zone.specs.Units.{instantOf}
 use Rattle.timeline.specs.Segments.{segments, showing}
 use Rattle.timeline.specs.Asking.{segmentsBy, segmentsOf}
 use Rattle.timeline.proofs.Parts.{merges}

@@ -3,10 +3,10 @@ use Prim.Native.Nat.{ℕ}
 use mathlib.Core.List.{List, [], _∷_, _++_}
 use mathlib.Core.Option.{Option, none, some}
 use lib.IntN.{ℤ}
-use Rattle.zone.specs.Units.{instantNumber}
+use Rattle.zone.specs.Units.{instantNumber, instantOf}
 use Rattle.records.specs.Records.{Coverage, Record}
 use Rattle.records.specs.Book.{records}
-use Rattle.venue.specs.Opening.{instantOf, coverageOf}
+use Rattle.venue.specs.Opening.{coverageOf}
 use Rattle.spans.specs.Spans.{Span}
 use Rattle.spans.specs.Timeline.{Part, blank}
 use Rattle.day.specs.Days.{valuesOf}

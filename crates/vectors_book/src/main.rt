@@ -73,7 +73,7 @@ fn compare(list: &[u8], kind: u8, counts: &mut [u64]) -> usize
     let length = count(number(list, 0, 1));
     match kind {
         0 => 1,
-        1 => {
+        CASE => {
             if list.len() < HEAD + length {
                 met(counts, STRANGE, true);
                 return 1;
@@ -81,7 +81,7 @@ fn compare(list: &[u8], kind: u8, counts: &mut [u64]) -> usize
             judged(&list[HEAD..HEAD + length], expected, counts);
             HEAD + length
         }
-        2 => {
+        ZEROS => {
             judged_zeros(length, expected, counts);
             HEAD
         }

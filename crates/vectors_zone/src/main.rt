@@ -10,7 +10,6 @@ use cases::report;
 use wire::Placed;
 use zone::Instant;
 use zone::Resolution;
-use zone::Timed;
 
 // Kinds of records: a zone begins, or is said again in a further block, and its transitions follow; then cases.
 const ZONE: u8 = 5;
@@ -86,24 +85,17 @@ fn shown_at(p: Placed) -> Wall {
 }
 
 fn same(t: Instant, p: Placed) -> bool {
-    zone::number_of(t).0 == p.0
+    zone::instant_of(p).0 == t.0
 }
 
 // Whether an instant reads as said.
 fn reads(first: u32, ats: &[u64], offsets: &[u32], t: Placed, x: Placed) -> bool
     requires { ⌜ Valid first (now ats) (now offsets) ⌝ }
 {
-    match zone::instant_of(t) {
-        Timed::At(at) => {
-            let r = zone::reading_of(first, ats, offsets, at);
-            let shown = shown_at(x);
-            let day = shown.day;
-            (zone::day_of_reading(r).0 == day.0)
-                & (zone::time_of_reading(r) == shown.time)
-                & same(at, t)
-        }
-        Timed::Outside => false,
-    }
+    let r = zone::reading_of(first, ats, offsets, zone::instant_of(t));
+    let shown = shown_at(x);
+    let day = shown.day;
+    (zone::day_of_reading(r).0 == day.0) & (zone::time_of_reading(r) == shown.time)
 }
 
 // Whether an answer is of a kind with these instants, and takes the right one.

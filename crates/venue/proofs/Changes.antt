@@ -14,14 +14,14 @@ use mir.Syntax.{Width, w32, w64}
 use Rattle.wire.specs.Signs.{half, since, placed, meant}
 use Rattle.wire.proofs.Signs.{and-true, meant-placed, meant-sum, since-meant, order-lt, order-le}
 use Rattle.calendar.specs.Answers.{firstDay, lastDay, zeroDay}
-use Rattle.zone.specs.Units.{secondNs, dayNs, mostOffset}
+use Rattle.zone.specs.Units.{secondNs, dayNs, mostOffset, secondsInstant}
 use Rattle.zone.specs.Answers.{Each, After, Spaced, Valid}
 use Rattle.records.specs.Limits.{base}
 use Rattle.records.specs.Records.{Coverage, Record, coverage, transition, rule, event}
 use Rattle.records.specs.Book.{Range, inside, instants, seconds, offsets, spacing, badFields, badItems, lastInstant, closer, coversNothing}
 use Rattle.records.proofs.Tests.{or-false}
 use Rattle.records.proofs.Cascade.{Passed}
-use Rattle.venue.specs.Opening.{secondsInstant, offsetOf, coverageOf, transitionsOf, atsOf, offsetsOf}
+use Rattle.venue.specs.Opening.{offsetOf, coverageOf, transitionsOf, atsOf, offsetsOf}
 use Rattle.venue.specs.Reading.{GoodCoverage}
 
 -- ---- a number in its range, as its field places it
@@ -49,7 +49,7 @@ within w low high (negsuc n) l h e =
 module _ {w : Width} {low high : ℕ} {z : ℤ} (m : Within w low high z) where
   -- counted from an origin below the range
   counted : (e : ℕ) → low < e → e ≤ half w → since e z ≡ m .place - (half w - e)
-  counted e l h = ap (since e) (m .same) ∙ since-meant w e (m .place) h (let a = m .above in omega arith)
+  counted e l h = ap (since e) (m .same) ∙ since-meant w e (m .place) h
 
   module _ {z′ : ℤ} (m′ : Within w low high z′) where
     before : leZ z′ z ≡ false → m .place < m′ .place

@@ -13,7 +13,7 @@ use Rattle.wire.proofs.Writing.{wrote-length}
 use Rattle.records.specs.Limits.{base}
 use Rattle.records.specs.Book.{refusal, records}
 use Rattle.records.specs.Layout.{transitionKind, ruleKind, eventKind}
-use Rattle.venue.specs.Opening.{atsOf, offsetsOf, opened, stored, rulePlaces, eventPlaces}
+use Rattle.venue.specs.Opening.{atsOf, offsetsOf, opened, stored, rulePlaces, eventPlaces, numberOpened}
 use Rattle.venue.specs.Filled.{Filled, Ready}
 use Rattle.venue.specs.declared.opened.Header.{Header}
 use Rattle.venue.specs.declared.opened.Opened.{Opened}
@@ -109,6 +109,7 @@ pub filled : (s ats offsets rules events : List ℕ) {ats′ offsets′ rules′
     × (offsets′ ≡ stored s offsets (offsetsOf (records s)))
     × (rules′ ≡ stored s rules (rulePlaces s))
     × (events′ ≡ stored s events (eventPlaces s))
+    × (numberOpened o 0 ≡ refusal base s)
     → base .transitions ≤ length ats → base .transitions ≤ length offsets → base .rules ≤ length rules → base .events ≤ length events
     → Filled s o ats′ offsets′ rules′ events′
 filled s ats offsets rules events e a b c d =

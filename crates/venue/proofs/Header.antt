@@ -12,8 +12,7 @@ use Rattle.wire.specs.Fields.{wrote}
 use Rattle.wire.specs.Signs.{half, meant, turned}
 use Rattle.wire.proofs.Signs.{since-meant}
 use Rattle.wire.proofs.Writing.{wrote-nothing}
-use Rattle.calendar.specs.Answers.{zeroDay}
-use Rattle.zone.specs.Units.{secondNs, dayNs}
+use Rattle.zone.specs.Units.{secondNs, instantOf}
 use Rattle.records.specs.Layout.{number, coverageStart, coverageEnd, coverageOffset, coverageKind}
 use Rattle.records.specs.Limits.{base}
 use Rattle.records.specs.Records.{Record, coverage, coverageAt, recordAt, kindOf}
@@ -21,7 +20,7 @@ use Rattle.records.specs.Book.{inside, instants, offsets, kindAt, nextAt, badFi
 use Rattle.records.specs.Frame.{Framed}
 use Rattle.records.proofs.Tests.{or-false, inside-range}
 use Rattle.records.proofs.Frames.{is-one, room1}
-use Rattle.venue.specs.Opening.{instantOf, coverageOf, transitionsOf, atsOf, offsetsOf, placesFrom, places, opened, stored}
+use Rattle.venue.specs.Opening.{coverageOf, transitionsOf, atsOf, offsetsOf, placesFrom, places, opened, stored}
 use Rattle.venue.specs.declared.opened.Opened.the-variants.{Refused, Empty, Venue}
 use Rattle.venue.specs.declared.opened.Counts.{Counts}
 use Rattle.venue.specs.Private.{countsOf}
@@ -115,16 +114,15 @@ module _ (s : List ℕ) (e : refusal base s ≡ 0) (ne : length s ≡ 0 → ⊥)
         is = f .3;
       }
 
-  instant-kept : (p : ℕ) → half w64 - 2177452800 * secondNs ≤ p → p - (half w64 - 2209593600 * secondNs) ≡ instantOf (meant w64 p)
-  instant-kept p l = sym (since-meant w64 (zeroDay * dayNs) p (omega arith) (omega arith))
-
-  pub venue-answer : (a b o : ℕ) (n : Counts) → a ≡ turned w64 (number coverageStart s 0) → b ≡ turned w64 (number coverageEnd s 0)
+  pub venue-answer : {p q a b o : ℕ} {n : Counts} → p ≡ turned w64 (number coverageStart s 0) → a ≡ instantOf (meant w64 p)
+      → q ≡ turned w64 (number coverageEnd s 0)
+      → b ≡ instantOf (meant w64 q)
       → o ≡ turned w32 (number coverageOffset s 0)
       → n ≡ countsOf (records s)
       → Venue
       (record {
-        start = record { 0 = a - (half w64 - 2209593600 * secondNs) };
-        end = record { 0 = b - (half w64 - 2209593600 * secondNs) };
+        start = record { 0 = a };
+        end = record { 0 = b };
         first = o - (half w32 - 57600);
         transitions = n .transitions;
         rules = n .rules;
@@ -132,8 +130,8 @@ module _ (s : List ℕ) (e : refusal base s ≡ 0) (ne : length s ≡ 0 → ⊥)
       })
       ≡ opened s
   unfolding opened
-  venue-answer a b o n qa qb qo qn =
-      let i = instant-kept (turned w64 (number coverageStart s 0)) (head .start-low) in
-      let j = instant-kept (turned w64 (number coverageEnd s 0)) (head .end-low) in
-      let k = sym (since-meant w32 57600 (turned w32 (number coverageOffset s 0)) (omega arith) (head .offset-low)) in
-      rw (qa, qb, qo, qn, i, j, k, head .is, e)
+  venue-answer qp qa qq qb qo qn =
+      let i = qa ∙ ap (λ (x : ℕ). instantOf (meant w64 x)) qp in
+      let j = qb ∙ ap (λ (x : ℕ). instantOf (meant w64 x)) qq in
+      let k = sym (since-meant w32 57600 (turned w32 (number coverageOffset s 0)) (omega arith)) in
+      rw (i, j, qo, qn, k, head .is, e)

@@ -13,13 +13,13 @@ use mir.Syntax.{w64}
 use Rattle.wire.specs.Signs.{meant, turned}
 use Rattle.wire.proofs.Signs.{since-meant}
 use Rattle.calendar.specs.Answers.{zeroDay}
-use Rattle.zone.specs.Units.{dayNs, instantNumber}
+use Rattle.zone.specs.Units.{dayNs, instantNumber, instantOf}
 use Rattle.zone.proofs.Domain.{instantZero, instant-placed}
 use Rattle.records.specs.Layout.{number, coverageStart, coverageEnd, transitionKind}
 use Rattle.records.specs.Limits.{base}
 use Rattle.records.specs.Records.{Coverage, coverageAt}
 use Rattle.records.specs.Book.{many, refusal, records}
-use Rattle.venue.specs.Opening.{instantOf, coverageOf, headerOf, venueOf, opened, rulePlaces, eventPlaces}
+use Rattle.venue.specs.Opening.{coverageOf, headerOf, venueOf, opened, rulePlaces, eventPlaces, numberOpened}
 use Rattle.venue.specs.declared.opened.Header.{Header}
 use Rattle.venue.specs.declared.opened.Opened.{Opened}
 use Rattle.venue.specs.declared.opened.Opened.the-variants.{Refused, Empty, Venue}
@@ -32,11 +32,6 @@ abbrev caseOf : Opened → ℕ
 caseOf (Refused n) = 0
 caseOf Empty = 1
 caseOf (Venue h) = 2
-
-abbrev numberIn : Opened → ℕ
-numberIn (Refused n) = n
-numberIn Empty = 0
-numberIn (Venue h) = 0
 
 -- a book that is refused
 pub opened-refused : (s : List ℕ) (n : ℕ) → Refused n ≡ opened s → (n ≡ refusal base s) × (refusal base s ≡ 0 → ⊥)
@@ -52,7 +47,7 @@ opened-refused s n e = go (eqb (refusal base s) 0) refl e
         → (n ≡ refusal base s) × (refusal base s ≡ 0 → ⊥)
     go true i q = other (coverageOf (records s)) q
     go false i q =
-        (ap numberIn q, λ z. let y : _≡_ {A = Bool} true false = sym (eq-eqb (refusal base s) 0 z) ∙ i in let x : _≡_ {A = ℕ} 0 1 = cc in omega arith)
+        (ap (λ (o : Opened). numberOpened o 0) q, λ z. let y : _≡_ {A = Bool} true false = sym (eq-eqb (refusal base s) 0 z) ∙ i in let x : _≡_ {A = ℕ} 0 1 = cc in omega arith)
 
 -- a venue without data
 pub opened-empty : (s : List ℕ) → Empty ≡ opened s → (refusal base s ≡ 0) × (coverageOf (records s) ≡ none)
@@ -96,7 +91,7 @@ opened-venue s h e = go (eqb (refusal base s) 0) refl e
 -- one that is not before 1899-12-25 has its number
 number-back : {z : ℤ} (p : ℕ) → z ≡ meant w64 p → instantZero ≤ p → instantNumber (instantOf z) ≡ z
 number-back p e h =
-    let i : instantOf (meant w64 p) ≡ p - instantZero = since-meant w64 (zeroDay * dayNs) p (omega arith) h in
+    let i : instantOf (meant w64 p) ≡ p - instantZero = since-meant w64 (zeroDay * dayNs) p (omega arith) in
     let j : p - instantZero + instantZero ≡ p = omega arith in
     ap (λ (x : ℤ). instantNumber (instantOf x)) e ∙ ap instantNumber i ∙ instant-placed (p - instantZero) ∙ ap (meant w64) j ∙ sym e
 

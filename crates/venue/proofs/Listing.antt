@@ -51,7 +51,7 @@ dates a b e r =
     }
 
 pub day-value : (x : ℕ) → half w32 - 25567 ≤ x → x - (half w32 - 25574) ≡ dayOf (meant w32 x)
-day-value x h = sym (since-meant w32 25574 x (omega arith) (omega arith))
+day-value x h = sym (since-meant w32 25574 x (omega arith))
 
 -- y is such a date's field, as it was read
 pub day-read : {x y : ℕ} → y ≡ x → half w32 - 25567 ≤ x → x ≤ half w32 + 84005
@@ -72,7 +72,7 @@ module _ (t x n : ℕ) where
   told = record { tag = t; nanoseconds = meant w64 x; text = n }
 
   width-value : half w64 ≤ x → x - half w64 ≡ since 0 (meant w64 x)
-  width-value h = sym (since-meant w64 0 x (omega arith) (omega arith) ∙ ap (λ (k : ℕ). x - k) (sub-zero (half w64)))
+  width-value h = sym (since-meant w64 0 x (omega arith) ∙ ap (λ (k : ℕ). x - k) (sub-zero (half w64)))
 
   pub exact : t ≡ 0 → Exact ≡ published told
   exact e = simp (eq-eqb t 0 e)

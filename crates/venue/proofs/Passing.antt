@@ -2,7 +2,7 @@
 use mathlib.Core.Path.{_≡_, refl, sym, ap, _∙_}
 use mathlib.Core.Bool.{false, not, cond}
 use mathlib.Core.List.{List, [], _∷_}
-use Prim.Native.Nat.{ℕ, zero, suc, _+_, _-_, _*_, _≤_, _<_}
+use Prim.Native.Nat.{ℕ, zero, suc, _+_, _-_, _≤_, _<_, _^_}
 use native.Mathlib.Nat.{lt-of-not-le}
 use native.Mathlib.Decide.{ℕ-discrete, decLe}
 use native.Mathlib.Omega.{arith}
@@ -13,7 +13,7 @@ use mir.Syntax.{w32, w64}
 use Rattle.wire.specs.Fields.{wrote}
 use Rattle.wire.specs.Signs.{half, meant, turned}
 use Rattle.wire.proofs.Signs.{since-meant}
-use Rattle.zone.specs.Units.{secondNs}
+use Rattle.zone.specs.Units.{secondsInstant}
 use Rattle.records.specs.Layout.{number, transitionInstant, transitionOffset, transitionKind, ruleKind, eventKind}
 use Rattle.wire.proofs.Writing.{wrote-one, wrote-nothing}
 use Rattle.records.specs.Limits.{base}
@@ -24,7 +24,8 @@ use Rattle.records.specs.Frame.{Framed}
 use Rattle.records.proofs.Frames.{Kind, one, two, three, four, kind-of, framed, is-one, is-two, is-three, is-four}
 use Rattle.records.proofs.Cascade.{passed, Passed, passed-all}
 use Rattle.records.proofs.Following.{many-moved, many-same, many-other, many-room}
-use Rattle.venue.specs.Opening.{secondsInstant, offsetOf, transitionsOf, atsOf, offsetsOf, placesFrom, places, rulePlaces, eventPlaces}
+use Rattle.zone.proofs.Domain.{second-meant}
+use Rattle.venue.specs.Opening.{offsetOf, transitionsOf, atsOf, offsetsOf, placesFrom, places, rulePlaces, eventPlaces}
 use Rattle.venue.specs.declared.opened.Counts.{Counts}
 use Rattle.venue.specs.Private.{Fitting, countsOf}
 
@@ -266,17 +267,17 @@ ranged s at before f e p =
 
 -- and so are kept as they are meant
 module _ {s : List ℕ} {at : ℕ} (r : Ranged s at) where
-  pub instant-kept : (p : ℕ) → p ≡ turned w64 (number transitionInstant s at)
-      → (p - (half w64 - 2209593600)) * secondNs ≡ secondsInstant (transitionAt s at .at)
-  instant-kept p e =
-      let l = r .at-low in
-      ap (λ (i : ℕ). (i - (half w64 - 2209593600)) * secondNs) e
-      ∙ ap (λ (i : ℕ). i * secondNs) (sym (since-meant w64 2209593600 (turned w64 (number transitionInstant s at)) (omega arith) (omega arith)))
+  pub instant-fits : {p : ℕ} → p ≡ turned w64 (number transitionInstant s at) → secondsInstant (meant w64 p) < 2 ^ 64
+  instant-fits {p} e = omega (arith, second-meant p, r .at-high)
+
+  pub instant-kept : {p a : ℕ} → p ≡ turned w64 (number transitionInstant s at) → a ≡ secondsInstant (meant w64 p)
+      → a ≡ secondsInstant (transitionAt s at .at)
+  instant-kept e i = i ∙ ap (λ (x : ℕ). secondsInstant (meant w64 x)) e
 
   pub offset-kept : (q : ℕ) → q ≡ turned w32 (number transitionOffset s at) → q - (half w32 - 57600) ≡ offsetOf (transitionAt s at .offset)
   offset-kept q e =
       ap (λ (i : ℕ). i - (half w32 - 57600)) e
-      ∙ sym (since-meant w32 57600 (turned w32 (number transitionOffset s at)) (omega arith) (r .offset-low))
+      ∙ sym (since-meant w32 57600 (turned w32 (number transitionOffset s at)) (omega arith))
 
 -- n clock changes stand before `at`, and those from there on are still to be stored
 pub record Changing (s ats ats′ offsets offsets′ : List ℕ) (turns at n : ℕ) : Type 0 where

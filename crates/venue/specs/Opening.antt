@@ -1,5 +1,5 @@
 -- What an accepted book holds, as a venue's values, and what opening it answers and stores. Assumes nothing.
-use Prim.Native.Nat.{ℕ, zero, suc, _*_}
+use Prim.Native.Nat.{ℕ, zero, suc}
 use mathlib.Core.Bool.{cond}
 use mathlib.Core.List.{List, [], _∷_, map}
 use mathlib.Core.Option.{Option, none, some}
@@ -9,7 +9,7 @@ use lib.ListN.{length}
 use Rattle.wire.specs.Fields.{wrote}
 use Rattle.wire.specs.Signs.{since}
 use Rattle.calendar.specs.Answers.{zeroDay}
-use Rattle.zone.specs.Units.{secondNs, dayNs, mostOffset}
+use Rattle.zone.specs.Units.{mostOffset, instantOf, secondsInstant}
 use Rattle.records.specs.Limits.{base}
 use Rattle.records.specs.Records.{Coverage, Transition, Rule, Event, Record, coverage, transition, rule, event}
 use Rattle.records.specs.Book.{kindAt, nextAt, many, refusal, records}
@@ -18,13 +18,7 @@ use Rattle.venue.specs.declared.opened.Header.{Header}
 use Rattle.venue.specs.declared.opened.Opened.{Opened}
 use Rattle.venue.specs.declared.opened.Opened.the-variants.{Refused, Empty, Venue}
 
--- ---- numbers as they are kept: instants in nanoseconds and dates since 1899-12-25, offsets plus 57,600 s
-
-abbrev pub instantOf : ℤ → ℕ
-instantOf n = since (zeroDay * dayNs) n
-
-abbrev pub secondsInstant : ℤ → ℕ
-secondsInstant n = since (zeroDay * 86400) n * secondNs
+-- ---- numbers as they are kept: dates since 1899-12-25, offsets plus 57,600 s
 
 abbrev pub offsetOf : ℤ → ℕ
 offsetOf n = since mostOffset n
@@ -107,6 +101,12 @@ venueOf rs (some c) = Venue (headerOf rs c)
 
 unfoldable pub opened : List ℕ → Opened
 opened s = cond (eqb (refusal base s) 0) (venueOf (records s) (coverageOf (records s))) (Refused (refusal base s))
+
+-- the number of each answer; of a book that is accepted it is that of what is asked of it, 0 where nothing is
+abbrev pub numberOpened : Opened → ℕ → ℕ
+numberOpened (Refused n) asked = n
+numberOpened Empty asked = asked
+numberOpened (Venue h) asked = asked
 
 -- what is stored, from the first place on, unless the book is refused
 unfoldable pub stored : List ℕ → List ℕ → List ℕ → List ℕ

@@ -7,7 +7,7 @@ use lib.Dec.{eqb}
 use lib.ListN.{length, getD}
 use Rattle.wire.specs.Signs.{since}
 use Rattle.calendar.specs.Answers.{firstDay, lastDay}
-use Rattle.zone.specs.Units.{dayNs}
+use Rattle.zone.specs.Units.{dayNs, instantOf}
 use Rattle.zone.specs.declared.Uncertainty.{Uncertainty}
 use Rattle.zone.specs.declared.Uncertainty.the-variants.{Exact, PublishedGranularity, PublishedBound, ProcessStart}
 use Rattle.records.specs.Limits.{base}
@@ -15,7 +15,7 @@ use Rattle.records.specs.Records.{Coverage, Published, Point, Rule, Event, reco
 use Rattle.records.specs.Frame.{Framed}
 use Rattle.records.specs.Book.{kindAt, outside, lateStart, falling, reversed}
 use Rattle.records.specs.Layout.{ruleKind, eventKind}
-use Rattle.venue.specs.Opening.{instantOf, dayOf}
+use Rattle.venue.specs.Opening.{dayOf}
 
 -- a good record of kind k stands at p, in no more bytes than a book may have
 pub record Listed (k : ℕ) (s : List ℕ) (p : ℕ) : Type 0 where

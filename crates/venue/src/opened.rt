@@ -1,8 +1,9 @@
 // A book opened: judged first, then what it holds put into arrays that the caller lends.
 ghost use mathlib.Core.Path.{_≡_};
-ghost use Rattle.records.specs.Book.{records};
+ghost use Rattle.records.specs.Book.{records, refusal};
 ghost use Rattle.wire.specs.Fields.{wrote};
-ghost use Rattle.venue.specs.Opening.{opened, stored, atsOf, offsetsOf, rulePlaces, eventPlaces};
+ghost use Rattle.records.specs.Limits.{base};
+ghost use Rattle.venue.specs.Opening.{opened, stored, atsOf, offsetsOf, rulePlaces, eventPlaces, numberOpened};
 ghost use Rattle.venue.specs.Private.{Fitting, countsOf};
 use book::check;
 use records::COVERAGE_END;
@@ -19,13 +20,12 @@ use records::TRANSITION;
 use records::TRANSITION_INSTANT;
 use records::TRANSITION_OFFSET;
 use records::TRANSITION_SIZE;
-use wire::HALF8;
 use wire::get2;
 use wire::signed4;
 use wire::signed8;
-use zone::INSTANT_ZERO;
 use zone::Instant;
-use zone::SECOND_NS;
+use zone::instant_of;
+use zone::instant_of_seconds;
 
 // Coverage, the first offset, in seconds plus 57,600, and how many of each kind there are.
 pub struct Header {
@@ -43,9 +43,6 @@ pub enum Opened {
     Empty,
     Venue(Header),
 }
-
-// 1899-12-25 as a placed number of seconds.
-const SECOND_ZERO: u64 = HALF8 - 2_209_593_600;
 
 // How many clock changes, rules and events there are.
 struct Counts {
@@ -78,7 +75,7 @@ fn store(
     while at < book.len() {
         let kind = get2(book, at + KIND);
         if kind == TRANSITION {
-            ats[change] = (signed8(book, at + TRANSITION_INSTANT).0 - SECOND_ZERO) * SECOND_NS;
+            ats[change] = instant_of_seconds(signed8(book, at + TRANSITION_INSTANT)).0;
             offsets[change] = signed4(book, at + TRANSITION_OFFSET).0 - OFFSETS_LOW;
             change += 1;
             at += TRANSITION_SIZE;
@@ -119,7 +116,8 @@ pub fn open(
         × (now (ats .exit) ≡ stored (now (book .entry)) (now (ats .entry)) (atsOf (records (now (book .entry)))))
         × (now (offsets .exit) ≡ stored (now (book .entry)) (now (offsets .entry)) (offsetsOf (records (now (book .entry)))))
         × (now (rules .exit) ≡ stored (now (book .entry)) (now (rules .entry)) (rulePlaces (now (book .entry))))
-        × (now (events .exit) ≡ stored (now (book .entry)) (now (events .entry)) (eventPlaces (now (book .entry)))) ⌝ }
+        × (now (events .exit) ≡ stored (now (book .entry)) (now (events .entry)) (eventPlaces (now (book .entry))))
+        × (numberOpened r 0 ≡ refusal base (now (book .entry))) ⌝ }
 {
     let number = check(book);
     if number != 0 {
@@ -128,8 +126,8 @@ pub fn open(
     if book.len() == 0 {
         return Opened::Empty;
     }
-    let start = Instant(signed8(book, COVERAGE_START).0 - INSTANT_ZERO);
-    let end = Instant(signed8(book, COVERAGE_END).0 - INSTANT_ZERO);
+    let start = instant_of(signed8(book, COVERAGE_START));
+    let end = instant_of(signed8(book, COVERAGE_END));
     let first = signed4(book, COVERAGE_OFFSET).0 - OFFSETS_LOW;
     let n = store(book, ats, offsets, rules, events);
     Opened::Venue(Header {

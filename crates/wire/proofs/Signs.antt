@@ -116,9 +116,9 @@ module _ (w : Width) where
           simp (e, le-ltb (x + k) (half w) (omega arith), z)
 
   -- counted from another origin
-  pub since-meant : (e x : ℕ) → e ≤ half w → half w - e ≤ x → since e (meant w x) ≡ x - (half w - e)
+  pub since-meant : (e x : ℕ) → e ≤ half w → since e (meant w x) ≡ x - (half w - e)
   unfolding meant
-  since-meant e x l h = go (ltb x (half w)) refl
+  since-meant e x l = go (ltb x (half w)) refl
     where
       go : (b : Bool) → ltb x (half w) ≡ b → since e (subℕ x (half w)) ≡ x - (half w - e)
       go true q = let k = ltb-true x (half w) q in simp q (omega arith)

@@ -10,7 +10,6 @@ pub use get::get4;
 pub use get::get8;
 pub use get::signed4;
 pub use get::signed8;
-pub use put::put_signed8;
 pub use put::put1;
 pub use put::put2;
 pub use put::put4;

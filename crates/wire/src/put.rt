@@ -1,9 +1,5 @@
 // Fields written to a byte slice, the lowest byte first. Each answers the place behind what it wrote.
-ghost use mir.Syntax.{w64};
 ghost use Rattle.wire.specs.Fields.{Inside, Put, bytes};
-ghost use Rattle.wire.specs.Signs.{turned};
-use crate::sign::Placed;
-use crate::sign::turn8;
 
 pub fn put1(out: &mut [u8], at: usize, x: u8) -> usize
     requires { ⌜ Inside at 1 (now out) ⌝ }
@@ -35,12 +31,4 @@ pub fn put8(out: &mut [u8], at: usize, x: u64) -> usize
 {
     let next = put4(out, at, (x % 0x1_0000_0000) as u32);
     put4(out, next, (x / 0x1_0000_0000) as u32)
-}
-
-// A placed number as a two's-complement field of 8 bytes.
-pub fn put_signed8(out: &mut [u8], at: usize, p: Placed) -> usize
-    requires { ⌜ Inside at 8 (now out) ⌝ }
-    ensures { λ r. ⌜ Put (now (out .entry)) at (bytes 8 (turned w64 (p .0))) 8 (now (out .exit)) r ⌝ }
-{
-    put8(out, at, turn8(p.0))
 }

@@ -1,20 +1,19 @@
 -- Numbers in use: their instants, and readings of dates and times. Assumes nothing.
-use mathlib.Core.Path.{_≡_, refl, sym, ap, _∙_}
+use mathlib.Core.Path.{_≡_, refl, ap, _∙_}
 use mathlib.Core.List.{List}
-use mathlib.Core.Option.{none, some}
-use Prim.Native.Nat.{ℕ, _+_, _-_, _*_, _^_, _≤_, _<_}
-use native.Mathlib.Nat.{mod-eq-of-lt}
+use Prim.Native.Nat.{ℕ, _+_, _-_, _*_, _^_, _≤_, _<_, _%_}
 use native.Mathlib.Omega.{arith}
-use lib.Dec.{lit≤}
+use lib.Dec.{lit≤, ltb}
 use mir.Syntax.{w64}
-use Rattle.wire.specs.Signs.{meant}
-use Rattle.wire.proofs.Signs.{origin, counted, counted-once, between-yes, between-low, between-high}
+use Rattle.wire.specs.Signs.{meant, half}
+use Rattle.wire.proofs.Signs.{origin, counted, counted-once, since-meant}
 use Rattle.calendar.specs.Answers.{lastDay, zeroDay}
-use Rattle.zone.specs.Units.{dayNs, mostNs, offsetNs, instantNumber, firstInstant, lastInstant, firstReading, lastReading, nearestInstant, nearestReading, readingDay, readingTime, readingAt}
+use mir.Val.{ofZ}
+use borrow.Author.Tests.{ltb-true, ltb-false}
+use mathlib.Core.Bool.{Bool, true, false}
+use Rattle.zone.specs.Units.{dayNs, mostNs, offsetNs, instantNumber, firstInstant, lastInstant, firstReading, lastReading, nearestInstant, nearestReading, readingDay, readingTime, readingAt, secondNs, instantOf, secondsInstant}
 use Rattle.zone.specs.Zone.{Zone, zoneOf, offsetAt, Reads, readingOf, dateAt, resolve}
-use Rattle.zone.specs.Answers.{Valid, within, timed, placedNumber, taken}
-use Rattle.zone.specs.declared.number.Timed.{Timed}
-use Rattle.zone.specs.declared.number.Timed.the-variants.{At, Outside}
+use Rattle.zone.specs.Answers.{Valid, taken}
 use Rattle.zone.proofs.Offsets.{offset-most}
 use Rattle.zone.proofs.Readings.{Among, among, taken-near}
 
@@ -27,30 +26,22 @@ instantZero = origin w64 (zeroDay * dayNs) (lit≤ tt)
 pub instant-placed : (t : ℕ) → instantNumber t ≡ meant w64 (t + instantZero)
 instant-placed t = counted w64 (zeroDay * dayNs) (lit≤ tt) t
 
-pub within-yes : (p : ℕ) → firstInstant + instantZero ≤ p → p ≤ lastInstant + instantZero → within (meant w64 p) ≡ some (meant w64 p)
-within-yes p a b = between-yes w64 (zeroDay * dayNs) (lit≤ tt) firstInstant lastInstant p a b
+pub instant-meant : (p : ℕ) → instantOf (meant w64 p) ≡ p - instantZero
+instant-meant p = since-meant w64 (zeroDay * dayNs) p (omega arith)
 
-pub within-low : (p : ℕ) → p < firstInstant + instantZero → within (meant w64 p) ≡ none
-within-low p h = between-low w64 (zeroDay * dayNs) (lit≤ tt) firstInstant lastInstant p h
-
-pub within-high : (p : ℕ) → lastInstant + instantZero < p → within (meant w64 p) ≡ none
-within-high p h = between-high w64 (zeroDay * dayNs) (lit≤ tt) firstInstant lastInstant p h
+pub second-meant : (p : ℕ) → secondsInstant (meant w64 p) ≡ (p - (half w64 - zeroDay * 86400)) * secondNs
+second-meant p = ap (λ (i : ℕ). i * secondNs) (since-meant w64 (zeroDay * 86400) p (omega arith))
 
 pub number-once : (s t : ℕ) → instantNumber s ≡ instantNumber t → s ≡ t
 number-once s t e = counted-once w64 (zeroDay * dayNs) (lit≤ tt) s t e
 
-timed-by : (s t : ℕ) → s ≡ t → _≡_ {A = Timed} (At (record { 0 = s })) (At (record { 0 = t }))
-timed-by s t e = cc
-
-pub timed-once : (r s : Timed) → timed r ≡ timed s → r ≡ s
-timed-once (At a) (At b) e = let same : instantNumber (a .0) ≡ instantNumber (b .0) = cc in timed-by (a .0) (b .0) (number-once (a .0) (b .0) same)
-timed-once (At a) Outside e = cc
-timed-once Outside (At b) e = cc
-timed-once Outside Outside e = refl
-
--- the placed number of an instant in use means its number
-pub number-meant : (t : ℕ) → t ≤ lastInstant → meant w64 (placedNumber t) ≡ instantNumber t
-number-meant t h = ap (meant w64) (mod-eq-of-lt (omega arith)) ∙ sym (instant-placed t)
+-- an instant's number as the bits of a field
+pub bits-number : (t : ℕ) → t < 2 ^ 64 → (t + (2 ^ 64 - zeroDay * dayNs)) % 2 ^ 64 ≡ ofZ w64 (instantNumber t)
+bits-number t h = go (ltb t (zeroDay * dayNs)) refl
+  where
+    go : (b : Bool) → ltb t (zeroDay * dayNs) ≡ b → (t + (2 ^ 64 - zeroDay * dayNs)) % 2 ^ 64 ≡ ofZ w64 (instantNumber t)
+    go true e = let l = ltb-true t (zeroDay * dayNs) e in simp e (omega arith)
+    go false e = let l = ltb-false t (zeroDay * dayNs) e in simp e (omega arith)
 
 -- ---- dates and times
 

@@ -1,5 +1,5 @@
 -- What a zone's slices must be, and its answers in document 01's numbers. Assumes nothing.
-use Prim.Native.Nat.{ℕ, _+_, _-_, _*_, _%_, _^_, _≤_, max}
+use Prim.Native.Nat.{ℕ, _+_, _*_, _≤_, max}
 use mathlib.Core.Path.{_≡_}
 use mathlib.Core.Bool.{Bool, true, false, cond, _&&_}
 use mathlib.Core.List.{List, [], _∷_, _++_}
@@ -10,31 +10,14 @@ use lib.ListN.{length}
 use mir.Syntax.{w64}
 use mir.Val.{ofZ}
 use Rattle.wire.specs.Fields.{bytes}
-use Rattle.wire.specs.Signs.{half, between}
-use Rattle.calendar.specs.Answers.{firstDay, lastDay, zeroDay}
-use Rattle.zone.specs.Units.{secondNs, dayNs, mostOffset, instantNumber, firstInstant, lastInstant, nearestReading, readingAt}
+use Rattle.calendar.specs.Answers.{firstDay, lastDay}
+use Rattle.zone.specs.Units.{secondNs, dayNs, mostOffset, instantNumber, nearestReading, readingAt}
 use Rattle.zone.specs.Zone.{Zone, resolve}
 use Rattle.zone.specs.declared.Boundary.{Boundary}
-use Rattle.zone.specs.declared.number.Timed.{Timed}
-use Rattle.zone.specs.declared.number.Timed.the-variants.{At, Outside}
 use Rattle.zone.specs.declared.Resolution.{Resolution}
 use Rattle.zone.specs.declared.Resolution.the-variants.{Clear, Fold, Gap}
 use Rattle.zone.specs.declared.Uncertainty.{Uncertainty}
 use Rattle.zone.specs.declared.Uncertainty.the-variants.{Exact, PublishedGranularity, PublishedBound, ProcessStart, AmbiguousLocalTime, NonexistentLocalTime}
-
--- ---- instants
-
--- the number of an instant in use; another is none
-abbrev pub within : ℤ → Option ℤ
-within n = between (instantNumber firstInstant) (instantNumber lastInstant) n
-
-abbrev pub timed : Timed → Option ℤ
-timed (At t) = some (instantNumber (t .0))
-timed Outside = none
-
--- the number of an instant, placed: in use it is that instant's and no other's
-abbrev pub placedNumber : ℕ → ℕ
-placedNumber t = (t + (half w64 - zeroDay * dayNs)) % 2 ^ 64
 
 -- ---- transitions
 

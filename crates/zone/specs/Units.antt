@@ -2,6 +2,7 @@
 use Prim.Native.Nat.{ℕ, _+_, _-_, _*_, _/_, _%_, min, max}
 use lib.IntN.{ℤ, subℕ}
 use Rattle.calendar.specs.Answers.{firstDay, lastDay, zeroDay}
+use Rattle.wire.specs.Signs.{since}
 
 abbrev pub secondNs : ℕ
 secondNs = 1000000000
@@ -12,6 +13,13 @@ dayNs = 86400 * secondNs
 -- document 01's number of an instant: nanoseconds since 1970
 abbrev pub instantNumber : ℕ → ℤ
 instantNumber t = subℕ t (zeroDay * dayNs)
+
+-- the instant that a number means, and that a number of seconds does; one before 1899-12-25 counts as that
+abbrev pub instantOf : ℤ → ℕ
+instantOf n = since (zeroDay * dayNs) n
+
+abbrev pub secondsInstant : ℤ → ℕ
+secondsInstant n = since (zeroDay * 86400) n * secondNs
 
 -- an offset is kept in seconds and never negative: plus 57,600, the most that it can be
 abbrev pub mostOffset : ℕ

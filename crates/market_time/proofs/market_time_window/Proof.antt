@@ -1,10 +1,10 @@
-use Rattle.query.specs.Judging.{windowNumber}
 use Rattle.timeline.specs.Asking.{windowAnswer}
 use Rattle.lend.proofs.Replies.{lent-same}
 use mir.ValLaws.{toZ-ofZ}
 use mir.Syntax.{w64}
 use mathlib.Core.Path.{ap₂}
 use borrow.Author.Needs.{needs}
+use Rattle.book_query.specs.Judging.{windowNumber}
 use Rattle.market_time.proofs.market_time_window.Statement.{statement}
 use Rattle.market_time.proofs.market_time_window.Tie as tie
 

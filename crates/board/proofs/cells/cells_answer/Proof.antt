@@ -25,7 +25,7 @@ outside c =
 asked : (c : tie.After-asked-window) → let args = entry (c .before .before) .args in c .asked-window .result ≡ windowOf (args .start) (args .end)
 asked c =
     let at-start = entry (c .before .before) in
-    (c .asked-window .ensures) ∙ ap₂ windowOf (toZ-ofZ w64 (at-start .args .start) (at-start .fits .start)) (toZ-ofZ w64 (at-start .args .end) (at-start .fits .end))
+    (c .asked-window .ensures .1) ∙ ap₂ windowOf (toZ-ofZ w64 (at-start .args .start) (at-start .fits .start)) (toZ-ofZ w64 (at-start .args .end) (at-start .fits .end))
 
 -- and its bounds are placed
 placed-start : (c : tie.After-place) → c .place .result .0 ≡ placed w64 (entry (c .before .before .before .before .before .before) .args .start)

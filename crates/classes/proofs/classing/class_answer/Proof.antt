@@ -22,7 +22,7 @@ judged : (c : tie.After-t) {r : ClassReply}
     r ≡ judgedClass (args .row .now) (placed w64 (args .at)) → r ≡ classReply (args .row .now) (args .at)
 judged c e =
     let at-asked-at = c .before .before in
-    class-judged _ _ (asked-in _ (at-asked-at .before .before .fits .at) (at-asked-at .asked-at .ensures) (c .t .given .1) .1) e
+    class-judged _ _ (asked-in _ (at-asked-at .before .before .fits .at) (at-asked-at .asked-at .ensures .1) (c .t .given .1) .1) e
 
 -- what the row's class tells of the row
 tells : (c : tie.After-row-class) {x : Classed} → c .row-class .result ≡ x
@@ -33,7 +33,7 @@ tells c e = subst (Classes false _ 0 _) e (c .row-class .ensures)
 returns : tie.Need-returns
 returns c =
     let at-asked-at = c .before .before .before in
-    class-outside _ _ (asked-outside _ (at-asked-at .before .before .fits .at) (at-asked-at .asked-at .ensures) (c .before .enum-told .given .1))
+    class-outside _ _ (asked-outside _ (at-asked-at .before .before .fits .at) (at-asked-at .asked-at .ensures .1) (c .before .enum-told .given .1))
     (c .no-class .ensures)
 
 returns-2 : tie.Need-returns-2

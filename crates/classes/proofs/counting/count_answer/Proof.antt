@@ -21,7 +21,7 @@ judged : (c : tie.After-t) {r : CountReply}
     r ≡ judgedCount (args .rows .now) (placed w64 (args .at)) → r ≡ countReply (args .rows .now) (args .at)
 judged c e =
     let at-asked-at = c .before .before in
-    count-judged _ _ (asked-in _ (at-asked-at .before .before .fits .at) (at-asked-at .asked-at .ensures) (c .t .given .1) .1) e
+    count-judged _ _ (asked-in _ (at-asked-at .before .before .fits .at) (at-asked-at .asked-at .ensures .1) (c .t .given .1) .1) e
 
 -- what follows from what stands first
 tells : (c : tie.After-stands-at) {x : Stands} → c .stands-at .result ≡ x
@@ -36,7 +36,7 @@ count-rows-requires c κs =
 returns : tie.Need-returns
 returns c =
     let at-asked-at = c .before .before .before in
-    count-outside _ _ (asked-outside _ (at-asked-at .before .before .fits .at) (at-asked-at .asked-at .ensures) (c .before .enum-told .given .1))
+    count-outside _ _ (asked-outside _ (at-asked-at .before .before .fits .at) (at-asked-at .asked-at .ensures .1) (c .before .enum-told .given .1))
     (c .no-count .ensures)
 
 returns-2 : tie.Need-returns-2

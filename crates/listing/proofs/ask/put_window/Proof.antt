@@ -1,7 +1,7 @@
 use Prim.Native.Nat.{ℕ}
+use Rattle.book_query.specs.Judging.{windowNumber}
 use Rattle.listing.proofs.Asking.{Answered, refused-text, answered, puts-text}
 use Rattle.listing.proofs.Bounds.{head-fits}
-use Rattle.query.specs.Judging.{windowNumber}
 use Rattle.timeline.specs.Asking.{windowAnswer}
 use Rattle.lend.proofs.Replies.{lent-same}
 use Rattle.lend.specs.Lending.{Lent}

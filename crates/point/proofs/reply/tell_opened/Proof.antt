@@ -61,7 +61,7 @@ returns-2 c =
     let at-enum-told2 = c .before in
     let at-asked-at = at-enum-told2 .before .before in
     let at-enum-told = at-asked-at .before in
-    let outside = asked-outside _ (emptyStart at-enum-told .fits .at) (at-asked-at .asked-at .ensures) (at-enum-told2 .enum-told2 .given .1) in
+    let outside = asked-outside _ (emptyStart at-enum-told .fits .at) (at-asked-at .asked-at .ensures .1) (at-enum-told2 .enum-told2 .given .1) in
     close-outside _ _ (opened-empty _ (empty at-enum-told) .0) outside (c .refused2 .ensures)
 
 returns-3 : tie.Need-returns-3
@@ -70,7 +70,7 @@ returns-3 c =
     let at-t = at-tell-missing .before .before .before in
     let at-asked-at = at-t .before .before in
     let at-enum-told = at-asked-at .before in
-    let in-range = asked-in _ (emptyStart at-enum-told .fits .at) (at-asked-at .asked-at .ensures) (at-t .t .given .1) in
+    let in-range = asked-in _ (emptyStart at-enum-told .fits .at) (at-asked-at .asked-at .ensures .1) (at-t .t .given .1) in
     close-empty _ _ in-range (empty at-enum-told) (at-tell-missing .tell-missing .ensures)
 
 returns-4 : tie.Need-returns-4
@@ -78,7 +78,7 @@ returns-4 c =
     let at-enum-told3 = c .before in
     let at-asked-at2 = at-enum-told3 .before .before in
     let at-opened2 = at-asked-at2 .before .before in
-    let outside = asked-outside _ (start at-opened2 .fits .at) (at-asked-at2 .asked-at2 .ensures) (at-enum-told3 .enum-told3 .given .1) in
+    let outside = asked-outside _ (start at-opened2 .fits .at) (at-asked-at2 .asked-at2 .ensures .1) (at-enum-told3 .enum-told3 .given .1) in
     close-outside _ _ (known at-opened2 .accepted) outside (c .refused3 .ensures)
 
 returns-5 : tie.Need-returns-5
@@ -87,7 +87,7 @@ returns-5 c =
     let at-t2 = at-tell-venue .before .before .before .before .before .before .before in
     let at-asked-at2 = at-t2 .before .before in
     let at-opened2 = at-asked-at2 .before .before in
-    let in-range = asked-in _ (start at-opened2 .fits .at) (at-asked-at2 .asked-at2 .ensures) (at-t2 .t2 .given .1) in
+    let in-range = asked-in _ (start at-opened2 .fits .at) (at-asked-at2 .asked-at2 .ensures .1) (at-t2 .t2 .given .1) in
     close-venue _ _ in-range (known at-opened2) _ (front-values (start at-opened2 .pre) (known at-opened2)) (at-tell-venue .tell-venue .ensures)
 
 pub tell-opened-spec : {M : Type 1} → statement M

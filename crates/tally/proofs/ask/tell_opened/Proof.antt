@@ -3,8 +3,9 @@ use lib.Seq.{length-take-le}
 use Rattle.venue.specs.Opening.{opened}
 use Rattle.venue.proofs.Fronts.{ats-in, offsets-in, rules-in, events-in, front-ready}
 use Rattle.day.proofs.Opened.{front-values}
-use Rattle.query.specs.Judging.{windowOf, judgedBy}
-use Rattle.query.proofs.Books.{Named, judged-as, judged-blank, judged-venue}
+use Rattle.query.specs.Judging.{windowOf}
+use Rattle.book_query.proofs.Books.{Named, judged-as, judged-blank, judged-venue}
+use Rattle.book_query.specs.Judging.{judgedBy}
 use Rattle.tally.proofs.Closing.{known-covers, close-refused, close-empty, close-venue}
 use borrow.Author.Needs.{needs}
 use Rattle.tally.proofs.ask.tell_opened.Statement.{statement}
@@ -16,7 +17,7 @@ asked : (c : tie.After-judged-window)
     c .judged-window .result ≡ judgedBy (opened (args .book .now)) (windowOf (args .start) (args .end))
 asked c =
     let at-start = c .before .before .before .before .before .before .before in
-    judged-as (at-start .args .book .now) (at-start .args .start) (at-start .args .end) (at-start .fits .start) (at-start .fits .end) (at-start .pre .answer) (c .judged-window .ensures)
+    judged-as (at-start .args .book .now) (at-start .args .start) (at-start .args .end) (at-start .fits .start) (at-start .fits .end) (at-start .pre .answer) (c .judged-window .ensures .1)
 
 -- the entry, from where a venue is judged
 abbrev entry : tie.After-h → tie.Start

@@ -3,8 +3,9 @@ use lib.Seq.{length-take-le}
 use Rattle.venue.specs.Opening.{opened}
 use Rattle.venue.proofs.Fronts.{ats-in, offsets-in, rules-in, events-in, front-ready}
 use Rattle.day.proofs.Opened.{front-values}
-use Rattle.query.specs.Judging.{windowOf, judgedBy}
-use Rattle.query.proofs.Books.{Named, judged-as, judged-blank, judged-venue}
+use Rattle.query.specs.Judging.{windowOf}
+use Rattle.book_query.proofs.Books.{Named, judged-as, judged-blank, judged-venue}
+use Rattle.book_query.specs.Judging.{judgedBy}
 use Rattle.timeline.proofs.Closing.{close-refused, close-empty, close-venue}
 use borrow.Author.Needs.{needs}
 use Rattle.timeline.proofs.ask.tell_opened.Statement.{statement}
@@ -17,7 +18,7 @@ start c = c .before .before .before .before .before .before .before
 asked : (c : tie.After-judged-window)
     → let args = start c .args in
     c .judged-window .result ≡ judgedBy (opened (args .book .now)) (windowOf (args .start) (args .end))
-asked c = judged-as _ _ _ (start c .fits .start) (start c .fits .end) (start c .pre .answer) (c .judged-window .ensures)
+asked c = judged-as _ _ _ (start c .fits .start) (start c .fits .end) (start c .pre .answer) (c .judged-window .ensures .1)
 
 -- of a venue
 named : (c : tie.After-h)

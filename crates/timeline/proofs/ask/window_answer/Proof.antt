@@ -1,5 +1,5 @@
 use Rattle.venue.proofs.Fronts.{stored-length, ats-fit, offsets-fit, rules-fit, events-fit, filled}
-use Rattle.query.specs.Judging.{windowNumber}
+use Rattle.book_query.specs.Judging.{windowNumber}
 use Rattle.timeline.specs.Asking.{windowAnswer}
 use Rattle.lend.proofs.Replies.{lent-same}
 use mir.ValLaws.{toZ-ofZ}

@@ -27,7 +27,7 @@ returns : tie.Need-returns
 returns c =
     let at-check = c .before in
     let kept = refused-kept (bookIn at-check) (refused c) in
-    (refused-answer _ (refused c) _ (at-check .check .ensures), kept _ _, kept _ _, kept _ _, kept _ _)
+    (refused-answer _ (refused c) _ (at-check .check .ensures), kept _ _, kept _ _, kept _ _, kept _ _, at-check .check .ensures)
 
 returns-2 : tie.Need-returns-2
 returns-2 c =
@@ -39,19 +39,14 @@ returns-2 c =
       nothing-stored s ok _ _ (empty-offsets s ok none),
       nothing-stored s ok _ _ (empty-places s ok none ruleKind),
       nothing-stored s ok _ _ (empty-places s ok none eventKind),
+      sym ok,
     )
 
 signed8-requires : tie.Need-signed8-requires
 signed8-requires c κs = omega (arith, first c .room)
 
-sub-t14 : tie.Need-sub-t14
-sub-t14 c = let at-signed8 = c .before in omega (arith, at-signed8 .signed8 .ensures, first (at-signed8 .before) .start-low)
-
 signed8-requires-2 : tie.Need-signed8-requires-2
 signed8-requires-2 c κs = omega (arith, first (c .before .before) .room)
-
-sub-t14-2 : tie.Need-sub-t14-2
-sub-t14-2 c = let at-signed82 = c .before in omega (arith, at-signed82 .signed82 .ensures, first (at-signed82 .before .before .before) .end-low)
 
 signed4-requires : tie.Need-signed4-requires
 signed4-requires c κs = omega (arith, first (c .before .before .before .before) .room)
@@ -67,18 +62,22 @@ store-requires c κs =
 returns-3 : tie.Need-returns-3
 returns-3 c =
     let at-signed4 = c .before .before .before .before .before .before in
-    let at-signed82 = at-signed4 .before .before in
-    let at-signed8 = at-signed82 .before .before in
+    let at-instant-of2 = at-signed4 .before in
+    let at-signed82 = at-instant-of2 .before in
+    let at-instant-of = at-signed82 .before in
+    let at-signed8 = at-instant-of .before in
     let at-if2 = at-signed8 .before in
     let s = bookIn (at-if2 .before .before) in
     let ok = accepted (at-if2 .before) in
     let stored = c .store .ensures in
     let kept = accepted-stored s ok in (
-      venue-answer s ok (at-if2 .if2 .left) _ _ _ _ (at-signed8 .signed8 .ensures) (at-signed82 .signed82 .ensures) (at-signed4 .signed4 .ensures) (stored .0),
+      venue-answer s ok (at-if2 .if2 .left) (at-signed8 .signed8 .ensures) (at-instant-of .instant-of .ensures) (at-signed82 .signed82 .ensures)
+          (at-instant-of2 .instant-of2 .ensures) (at-signed4 .signed4 .ensures) (stored .0),
       stored .1 ∙ kept _ _,
       stored .2 ∙ kept _ _,
       stored .3 ∙ kept _ _,
       stored .4 ∙ kept _ _,
+      sym ok,
     )
 
 pub open-spec : {M : Type 1} → statement M
@@ -89,9 +88,9 @@ open-spec =
     returns
     returns-2
     signed8-requires
-    sub-t14
+    (λ c κs. search needs)
     signed8-requires-2
-    sub-t14-2
+    (λ c κs. search needs)
     signed4-requires
     sub-first
     store-requires

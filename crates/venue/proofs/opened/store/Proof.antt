@@ -8,7 +8,7 @@ use Rattle.records.specs.Limits.{base}
 use Rattle.records.specs.Book.{kindAt, nextAt, many, most, records}
 use Rattle.records.proofs.Frames.{size-by, room2, next2}
 use Rattle.records.specs.Layout.{transitionKind, ruleKind, eventKind, transitionSize}
-use Rattle.venue.proofs.Passing.{Passing, Standing, Ranged, few-records, pass-start, standing, frame, range, room-change, room-rule, room-event, pass-change, pass-rule, pass-event, pass-other, pass-end, instant-kept, offset-kept}
+use Rattle.venue.proofs.Passing.{Passing, Standing, Ranged, few-records, pass-start, standing, frame, range, room-change, room-rule, room-event, pass-change, pass-rule, pass-event, pass-other, pass-end, instant-fits, instant-kept, offset-kept}
 use Rattle.venue.proofs.opened.store.Statement.{statement}
 use Rattle.venue.proofs.opened.store.Tie as tie
 
@@ -73,14 +73,8 @@ add-signed8 c = omega (arith, change-room c, (here (c .before .before)) .small)
 signed8-requires : At tie.Need-signed8-requires
 signed8-requires c κs = omega (arith, change-room c)
 
-sub-ats : At tie.Need-sub-ats
-sub-ats c = let at-signed8 = c .before in omega (arith, (in-range (at-signed8 .before)) .at-low, at-signed8 .signed8 .ensures)
-
-mul-ats : At tie.Need-mul-ats
-mul-ats c =
-    let at-signed8 = c .before in
-    let r = in-range (at-signed8 .before) in
-    omega (arith, r .at-low, r .at-high, at-signed8 .signed8 .ensures)
+instant-of-seconds-requires : At tie.Need-instant-of-seconds-requires
+instant-of-seconds-requires c κs = instant-fits (in-range (c .before)) (c .signed8 .ensures)
 
 slice-write-ats : At tie.Need-slice-write-ats
 slice-write-ats c = let then = c .before .before in room-change (here (then .before .before)) (is-change then) .0
@@ -109,11 +103,12 @@ loop-less c = omega (arith, change-room (c .before .before .before .before))
 loop-again : At tie.Need-loop-again
 loop-again c =
     let at-signed4 = c .before in
-    let at-signed8 = at-signed4 .before .before in
+    let at-instant = at-signed4 .before in
+    let at-signed8 = at-instant .before in
     let then = at-signed8 .before in
     let l = then .before .before in
     pass-change (here l) (next2 (bookIn l) (placeIn l) _ (frame (here l)) refl (is-change then)) (is-change then)
-    (instant-kept (in-range then) _ (at-signed8 .signed8 .ensures)) (offset-kept (in-range then) _ (at-signed4 .signed4 .ensures))
+    (instant-kept (in-range then) (at-signed8 .signed8 .ensures) (at-instant .instant-of-seconds .ensures)) (offset-kept (in-range then) _ (at-signed4 .signed4 .ensures))
 
 add-next : At tie.Need-add-next
 add-next c = let l = c .before .before in omega (arith, (frame (here l)) .head, (here l) .small)
@@ -190,8 +185,7 @@ store-spec =
     get2-requires
     add-signed8
     signed8-requires
-    sub-ats
-    mul-ats
+    instant-of-seconds-requires
     (λ c. search needs)
     slice-write-ats
     add-signed4

@@ -11,13 +11,13 @@ use lib.Dec.{leb, ltb}
 use lib.IntN.{ℤ}
 use mir.Syntax.{w64}
 use Rattle.wire.specs.Signs.{placed}
-use Rattle.zone.specs.Units.{instantNumber}
+use Rattle.zone.specs.Units.{instantNumber, instantOf}
 use Rattle.zone.proofs.Domain.{instantZero}
 use Rattle.records.specs.Limits.{base}
 use Rattle.records.specs.Book.{refusal, records, inside, instants}
 use Rattle.records.specs.Valid.{Bytes}
-use Rattle.venue.specs.Opening.{instantOf, coverageOf}
-use Rattle.spans.specs.Spans.{Mark, Span, Body, look, holds, segmentAt, Within, Differ, Apart}
+use Rattle.venue.specs.Opening.{coverageOf}
+use Rattle.spans.specs.Spans.{Mark, Span, look, holds, segmentAt, Within, Differ, Apart}
 use Rattle.query.specs.Judging.{windowRefusal}
 use Rattle.query.proofs.Order.{window-passed}
 use Rattle.events.specs.declared.Occurrence.{Occurrence}
@@ -27,32 +27,11 @@ use Rattle.rows.specs.Rows.{Event, Seen}
 use Rattle.rows.specs.Written.{instant, eventsOf, seenOf}
 use Rattle.rows.proofs.Writing.{written}
 use Rattle.tell.specs.Shown.{Shown, eventForm}
 use Rattle.timeline.specs.Segments.{markOf, segments}
 use Rattle.timeline.specs.Asking.{segmentForms, timelineForms, statedCover, segmentsOf, windowForms, windowAnswer}
 use Rattle.timeline.proofs.Shape.{window-shape}
-use Rattle.timeline.proofs.Row.{number-placed, instant-of, window-row}
-
--- ---- a segment as it is read
-
-abbrev pub seenEvent : Occurrence → Event
-seenEvent o = record { at = instant (instantNumber (o .boundary .at .0)); code = o .code }
-
-abbrev pub seenEvents : Option Shown → List Event
-seenEvents none = []
-seenEvents (some x) = map seenEvent (x .events)
-
-abbrev seenAs : ℕ → ℕ → Mark → List Event → Span Seen
-seenAs from to m es = record { from = instant (instantNumber from); to = instant (instantNumber to); body = record { mark = m; events = es } }
-
-abbrev pub seenBetween : ℕ → ℕ → Option Shown → Span Seen
-seenBetween from to o = seenAs from to (markOf o) (seenEvents o)
-
-abbrev pub seenSpan : Span (Option Shown) → Span Seen
-seenSpan s = seenBetween (s .from) (s .to) (s .body)
-
--- what is read shows its mark; reading joins nothing
-abbrev pub seenMarks : Body Seen
-seenMarks = record { mark = λ (x : Seen). x .mark; merge = λ (a b : Seen). a }
+use Rattle.timeline_rows.proofs.Row.{number-placed, instant-of, window-row}
+use Rattle.timeline_rows.specs.Seen.{seenEvent, seenAs, seenBetween, seenSpan, seenMarks}
 
 -- ---- the records of segments, read
 

@@ -13,7 +13,7 @@ use mir.Syntax.{w64}
 use mir.Val.{SFits}
 use Rattle.wire.specs.Signs.{placed}
 use Rattle.wire.proofs.Signs.{and-true, placed-meant}
-use Rattle.zone.specs.Units.{secondNs, instantNumber, lastInstant}
+use Rattle.zone.specs.Units.{secondNs, instantNumber, lastInstant, instantOf}
 use Rattle.zone.specs.Answers.{values}
 use Rattle.zone.specs.declared.Uncertainty.{Uncertainty}
 use Rattle.zone.specs.declared.Uncertainty.the-variants.{Exact, PublishedGranularity, PublishedBound, ProcessStart, AmbiguousLocalTime, NonexistentLocalTime}
@@ -22,7 +22,7 @@ use Rattle.records.specs.Limits.{base}
 use Rattle.records.specs.Records.{Coverage}
 use Rattle.records.specs.Book.{refusal, records, inside, instants}
 use Rattle.records.specs.Valid.{Bytes}
-use Rattle.venue.specs.Opening.{instantOf, coverageOf, headerOf}
+use Rattle.venue.specs.Opening.{coverageOf, headerOf}
 use Rattle.venue.proofs.Laws.{good-coverage}
 use Rattle.venue.proofs.Known.{Known, start-number, end-number}
 use Rattle.spans.specs.Spans.{Span, Within}

@@ -13,17 +13,18 @@ use mir.ValLaws.{toZ-ofZ}
 use Rattle.zone.specs.declared.Instant.{Instant}
 use Rattle.records.specs.Limits.{base}
 use Rattle.records.specs.Book.{refusal, records}
-use Rattle.venue.specs.Opening.{coverageOf, opened}
+use Rattle.venue.specs.Opening.{coverageOf, opened, numberOpened}
 use Rattle.venue.specs.declared.opened.Header.{Header}
 use Rattle.venue.specs.declared.opened.Opened.{Opened}
 use Rattle.venue.specs.declared.opened.Opened.the-variants as Opened
 use Rattle.venue.proofs.Known.{opened-refused, opened-empty, opened-venue, Known}
-use Rattle.query.specs.Judging.{windowRefusal, windowOf, windowNumber, judgedBy}
-use Rattle.query.specs.declared.Judged.{Judged}
-use Rattle.query.specs.declared.Judged.the-variants as Judged
+use Rattle.query.specs.Judging.{windowRefusal, windowOf}
+use Rattle.book_query.specs.declared.Judged.{Judged}
+use Rattle.book_query.specs.declared.Judged.the-variants as Judged
 use Rattle.query.specs.declared.Window.{Window}
 use Rattle.query.specs.declared.Window.the-variants.{Refused, Between}
 use Rattle.query.proofs.Windows.{Windowed, window-between, window-refused}
+use Rattle.book_query.specs.Judging.{windowNumber, judgedBy, numberJudged}
 
 -- a venue without data, and a window that passes
 pub record Blanked (s : List ℕ) (m n : ℤ) (a b : Instant) : Type 0 where
@@ -44,10 +45,16 @@ caseOf (Judged.Refused k) = 0
 caseOf (Judged.Blank a b) = 1
 caseOf (Judged.Venue h a b) = 2
 
-abbrev numberIn : Judged → ℕ
-numberIn (Judged.Refused k) = k
-numberIn (Judged.Blank a b) = 0
-numberIn (Judged.Venue h a b) = 0
+-- the number, by what opening answered, whatever it was
+pub judged-number : (m n : ℤ) (o : Opened) → numberJudged (judgedBy o (windowOf m n)) ≡ numberOpened o (windowRefusal m n)
+judged-number m n o = go o (windowOf m n) refl
+  where
+    go : (o : Opened) (w : Window) → w ≡ windowOf m n → numberJudged (judgedBy o w) ≡ numberOpened o (windowRefusal m n)
+    go (Opened.Refused k) w e = refl
+    go Opened.Empty (Refused k) e = window-refused m n e .0
+    go Opened.Empty (Between a b) e = sym (window-between m n e .passed)
+    go (Opened.Venue h) (Refused k) e = window-refused m n e .0
+    go (Opened.Venue h) (Between a b) e = sym (window-between m n e .passed)
 
 module _ (s : List ℕ) (m n : ℤ) where
   -- ---- the number
@@ -76,11 +83,11 @@ module _ (s : List ℕ) (m n : ℤ) where
       go : (o : Opened) → o ≡ opened s → (w : Window) → w ≡ windowOf m n → Judged.Refused k ≡ judgedBy o w → (k ≡ windowNumber s m n) × (k ≡ 0 → ⊥)
       go (Opened.Refused x) i w j q =
           let r = opened-refused s x i in
-          let p : k ≡ x = ap numberIn q in
+          let p : k ≡ x = ap numberJudged q in
           (p ∙ r .0 ∙ of-book (r .1), λ y. r .1 (sym (r .0) ∙ sym p ∙ y))
-      go Opened.Empty i (Refused x) j q = window (opened-empty s i .0) x j (ap numberIn q)
+      go Opened.Empty i (Refused x) j q = window (opened-empty s i .0) x j (ap numberJudged q)
       go Opened.Empty i (Between a b) j q = absurd (let y = ap caseOf q in omega arith)
-      go (Opened.Venue h) i (Refused x) j q = window (opened-venue s h i .accepted) x j (ap numberIn q)
+      go (Opened.Venue h) i (Refused x) j q = window (opened-venue s h i .accepted) x j (ap numberJudged q)
       go (Opened.Venue h) i (Between a b) j q = absurd (let y = ap caseOf q in omega arith)
 
   pub judged-blank : {a b : Instant} → Judged.Blank a b ≡ judgedBy (opened s) (windowOf m n) → Blanked s m n a b
