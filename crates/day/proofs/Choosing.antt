@@ -14,10 +14,11 @@ use Rattle.calendar.specs.Answers.{weekdayOf}
 use Rattle.records.specs.Records.{Rule, ruleAt}
 use Rattle.venue.specs.Opening.{dayOf}
 use Rattle.venue.specs.Reading.{ListedRule, ListedRules}
-use Rattle.day.specs.Governing.{precedence, marked, applies, takes, governingFrom, governing}
-use Rattle.day.specs.Meaning.{Stands, ruled}
+use Rattle.day.specs.Governing.{precedence, marked, applies, takes, governingFrom, governing, governingPlace}
+use Rattle.day.specs.Meaning.{Stands, ruled, placeOf}
 use Rattle.day.specs.declared.Governed.{Governed}
 use Rattle.day.specs.declared.Governed.the-variants.{Nothing, By}
+use Rattle.day.proofs.Governs.{itsRule, governing-rule}
 
 -- ---- precedence
 
@@ -53,13 +54,13 @@ pub stands-by : {best : Governed} {p : ℕ} → best ≡ By p → (s : List ℕ)
 stands-by z s h = rw z at h
 
 module _ (s : List ℕ) (best : Governed) (at d : ℕ) {on : Bool} (a : on ≡ applies (ruleAt s at) d) where
-  pub takes-no : not on ≡ true → false ≡ takes (ruled s best) (ruleAt s at) d
-  takes-no h = go (ruled s best)
+  pub takes-no : not on ≡ true → false ≡ takes (ruleAt s) (placeOf best) at d
+  takes-no h = go (placeOf best)
     where
       off : applies (ruleAt s at) d ≡ false
       off = sym a ∙ not-true on h
 
-      go : (b : Option Rule) → false ≡ takes b (ruleAt s at) d
+      go : (b : Option ℕ) → false ≡ takes (ruleAt s) b at d
       go none = sym off
       go (some b) = simp off
 
@@ -67,15 +68,15 @@ module _ (s : List ℕ) (best : Governed) (at d : ℕ) {on : Bool} (a : on ≡ a
     is-on : applies (ruleAt s at) d ≡ true
     is-on = sym a ∙ not-false on h
 
-    pub takes-any : best ≡ Nothing → true ≡ takes (ruled s best) (ruleAt s at) d
+    pub takes-any : best ≡ Nothing → true ≡ takes (ruleAt s) (placeOf best) at d
     takes-any z = rw z (sym is-on)
 
     module _ {p : ℕ} (z : best ≡ By p) {old new : ℕ} (o : old ≡ precedence (ruleAt s p .code)) (n : new ≡ precedence (ruleAt s at .code)) where
-      pub takes-over : old < new → true ≡ takes (ruled s best) (ruleAt s at) d
+      pub takes-over : old < new → true ≡ takes (ruleAt s) (placeOf best) at d
       takes-over l = simp (z, is-on, sym o, sym n, lt-ltb old new l)
 
       pub takes-level : new ≤ old → {x y : ℕ} → x ≡ dayOf (ruleAt s p .first) → y ≡ dayOf (ruleAt s at .first)
-          → (eqb old new && leb x y) ≡ takes (ruled s best) (ruleAt s at) d
+          → (eqb old new && leb x y) ≡ takes (ruleAt s) (placeOf best) at d
       takes-level l {x} {y} e f = simp (z, is-on) (simp (sym o, sym n, le-ltb old new l, sym e, sym f))
 
 -- ---- along the places
@@ -84,43 +85,51 @@ module _ (s : List ℕ) (best : Governed) (at d : ℕ) {on : Bool} (a : on ≡ a
 pub record Choosing (s rules : List ℕ) (d : ℕ) (best : Governed) (i : ℕ) : Type 0 where
   pub low : i ≤ length rules
   pub stands : Stands s best
-  pub same : governingFrom (ruled s best) (map (ruleAt s) (drop i rules)) d ≡ governing (map (ruleAt s) rules) d
+  pub same : governingFrom (ruleAt s) (placeOf best) (drop i rules) d ≡ governingPlace s rules d
 
-module _ {s rules : List ℕ} {d : ℕ} where
-  pub choose-start : Choosing s rules d Nothing 0
-  choose-start = record { low = omega arith; stands = tt; same = refl }
+ruled-by : (s : List ℕ) (r : Governed) → ruled s r ≡ itsRule (ruleAt s) (placeOf r)
+ruled-by s Nothing = refl
+ruled-by s (By p) = refl
+
+pub choose-start : {s rules : List ℕ} {d : ℕ} → Choosing s rules d Nothing 0
+choose-start = record { low = omega arith; stands = tt; same = refl }
+
+-- a place that is chosen has the rule that governs
+pub placed : (s rules : List ℕ) (d : ℕ) (r : Governed) → placeOf r ≡ governingPlace s rules d → ruled s r ≡ governing (map (ruleAt s) rules) d
+placed s rules d r e = ruled-by s r ∙ ap (itsRule (ruleAt s)) e ∙ governing-rule (ruleAt s) d rules
 
 module _ {s rules : List ℕ} {d : ℕ} {best : Governed} {i : ℕ} (c : Choosing s rules d best i) where
-  pub chosen : length rules ≤ i → ruled s best ≡ governing (map (ruleAt s) rules) d
+  pub chosen : length rules ≤ i → (ruled s best ≡ governing (map (ruleAt s) rules) d) × Stands s best × (placeOf best ≡ governingPlace s rules d)
   unfolding governingFrom
   chosen h =
       let e : i ≡ length rules = omega (arith, c .low) in
       let none-left = ap (λ (k : ℕ). drop k rules) e ∙ drop-length rules in
-      sym (ap (λ (l : List ℕ). governingFrom (ruled s best) (map (ruleAt s) l) d) none-left) ∙ c .same
+      let is = sym (ap (λ (l : List ℕ). governingFrom (ruleAt s) (placeOf best) l d) none-left) ∙ c .same in
+      (placed s rules d best is, c .stands, is)
 
   module _ (h : i < length rules) where
-    abbrev here : Rule
-    here = ruleAt s (getD rules i 0)
+    abbrev here : ℕ
+    here = getD rules i 0
 
-    step : governingFrom (cond (takes (ruled s best) here d) (some here) (ruled s best)) (map (ruleAt s) (drop (i + 1) rules)) d ≡ governing (map (ruleAt s) rules) d
+    step : governingFrom (ruleAt s) (cond (takes (ruleAt s) (placeOf best) here d) (some here) (placeOf best)) (drop (i + 1) rules) d ≡ governingPlace s rules d
     unfolding governingFrom
-    step = rw (add-one i) (sym (ap (λ (l : List ℕ). governingFrom (ruled s best) (map (ruleAt s) l) d) (drop-cons rules i 0 h)) ∙ c .same)
+    step = rw (add-one i) (sym (ap (λ (l : List ℕ). governingFrom (ruleAt s) (placeOf best) l d) (drop-cons rules i 0 h)) ∙ c .same)
 
-    pub choose-one : {now : Governed} {t : Bool} → ListedRules s rules → t ≡ takes (ruled s best) here d → t ≡ true → now ≡ By (getD rules i 0)
+    pub choose-one : {now : Governed} {t : Bool} → ListedRules s rules → t ≡ takes (ruleAt s) (placeOf best) here d → t ≡ true → now ≡ By here
         → Choosing s rules d now (i + 1)
     choose-one {now} l t y e =
         rw e
         (record {
           low = omega arith;
           stands = l i h;
-          same = ap (λ (q : Bool). governingFrom (cond q (some here) (ruled s best)) (map (ruleAt s) (drop (i + 1) rules)) d) (sym y ∙ t) ∙ step;
+          same = ap (λ (q : Bool). governingFrom (ruleAt s) (cond q (some here) (placeOf best)) (drop (i + 1) rules) d) (sym y ∙ t) ∙ step;
         })
 
-    pub choose-none : {now : Governed} {t : Bool} → t ≡ takes (ruled s best) here d → t ≡ false → now ≡ best → Choosing s rules d now (i + 1)
+    pub choose-none : {now : Governed} {t : Bool} → t ≡ takes (ruleAt s) (placeOf best) here d → t ≡ false → now ≡ best → Choosing s rules d now (i + 1)
     choose-none {now} t y e =
         rw e
         (record {
           low = omega arith;
           stands = c .stands;
-          same = ap (λ (q : Bool). governingFrom (cond q (some here) (ruled s best)) (map (ruleAt s) (drop (i + 1) rules)) d) (sym y ∙ t) ∙ step;
+          same = ap (λ (q : Bool). governingFrom (ruleAt s) (cond q (some here) (placeOf best)) (drop (i + 1) rules) d) (sym y ∙ t) ∙ step;
         })

@@ -2,7 +2,7 @@
 use mathlib.Core.Path.{_≡_, refl, sym, ap, _∙_}
 use mathlib.Core.Logic.{_⊎_, inl, inr}
 use mathlib.Core.Bool.{Bool, true, false, cond, _&&_, _||_}
-use mathlib.Core.List.{List, [], _∷_}
+use mathlib.Core.List.{List, [], _∷_, map}
 use mathlib.Core.Option.{Option, none, some}
 use Prim.Native.Nat.{ℕ, zero, suc, _≤_, _<_}
 use native.Mathlib.Nat.{le-of-suc-le-suc}
@@ -14,7 +14,7 @@ use Rattle.wire.proofs.Signs.{and-true}
 use Rattle.records.specs.Records.{Rule}
 use Rattle.records.proofs.Tests.{or-false}
 use Rattle.venue.specs.Opening.{dayOf}
-use Rattle.day.specs.Governing.{precedence, applies, notLower, takes, governingFrom, governing, nth, Governs}
+use Rattle.day.specs.Governing.{precedence, applies, notLower, takes, governingFrom, nth, Governs, governingOf, governing}
 
 -- ---- not lower: by a number p, then by a number f
 
@@ -75,136 +75,166 @@ higher-turned r q e = turned (precedence (r .code)) (dayOf (r .first)) (preceden
 higher-joined : (r q b : Rule) → notLower r q ≡ true → notLower q b ≡ true → notLower r b ≡ true
 higher-joined r q b = joined (precedence (r .code)) (dayOf (r .first)) (precedence (q .code)) (dayOf (q .first)) (precedence (b .code)) (dayOf (b .first))
 
--- what takes the place of the best so far applies
-takes-applies : (best : Option Rule) (r : Rule) (d : ℕ) → takes best r d ≡ true → applies r d ≡ true
-takes-applies none r d e = e
-takes-applies (some b) r d e = and-true (applies r d) (notLower r b) e .0
+-- ---- the choice
 
--- one that applies and does not take it is lower
-stays : (b r : Rule) (d : ℕ) → takes (some b) r d ≡ false → applies r d ≡ true → notLower r b ≡ false
-stays b r d e a = simp a at e
+module _ {A : Type 0} (f : A → Rule) where
+  -- what takes the place of the best so far applies
+  takes-applies : (best : Option A) (r : A) (d : ℕ) → takes f best r d ≡ true → applies (f r) d ≡ true
+  takes-applies none r d e = e
+  takes-applies (some b) r d e = and-true (applies (f r) d) (notLower (f r) (f b)) e .0
 
--- what takes it is not lower than one that applies and does not
-takes-above : (best : Option Rule) (r q : Rule) (d : ℕ) → takes best r d ≡ true → takes best q d ≡ false → applies q d ≡ true → notLower r q ≡ true
-takes-above none r q d t e a = let z : _≡_ {A = Bool} true false = sym a ∙ e in cc
-takes-above (some b) r q d t e a = higher-joined r b q (and-true (applies r d) (notLower r b) t .1) (higher-turned q b (stays b q d e a))
+  -- one that applies and does not take it is lower
+  stays : (b r : A) (d : ℕ) → takes f (some b) r d ≡ false → applies (f r) d ≡ true → notLower (f r) (f b) ≡ false
+  stays b r d e a = simp a at e
 
--- what takes it from one that took it would have taken it itself
-takes-after : (best : Option Rule) (q r : Rule) (d : ℕ) → takes best q d ≡ true → takes (some q) r d ≡ true → takes best r d ≡ true
-takes-after none q r d t u = and-true (applies r d) (notLower r q) u .0
-takes-after (some b) q r d t u =
-    let x = and-true (applies r d) (notLower r q) u in
-    simp (x .0) (higher-joined r q b (x .1) (and-true (applies q d) (notLower q b) t .1))
+  -- what takes it is not lower than one that applies and does not
+  takes-above : (best : Option A) (r q : A) (d : ℕ) → takes f best r d ≡ true → takes f best q d ≡ false → applies (f q) d ≡ true
+      → notLower (f r) (f q) ≡ true
+  takes-above none r q d t e a = let z : _≡_ {A = Bool} true false = sym a ∙ e in cc
+  takes-above (some b) r q d t e a =
+      higher-joined (f r) (f b) (f q) (and-true (applies (f r) d) (notLower (f r) (f b)) t .1) (higher-turned (f q) (f b) (stays b q d e a))
 
--- ---- the outcome
+  -- what takes it from one that took it would have taken it itself
+  takes-after : (best : Option A) (q r : A) (d : ℕ) → takes f best q d ≡ true → takes f (some q) r d ≡ true → takes f best r d ≡ true
+  takes-after none q r d t u = and-true (applies (f r) d) (notLower (f r) (f q)) u .0
+  takes-after (some b) q r d t u =
+      let x = and-true (applies (f r) d) (notLower (f r) (f q)) u in
+      simp (x .0) (higher-joined (f r) (f q) (f b) (x .1) (and-true (applies (f q) d) (notLower (f q) (f b)) t .1))
 
--- nothing of the list takes the place of the best so far, or what governs in the list does
-data Outcome (best : Option Rule) (rs : List Rule) (d : ℕ) : Option Rule → Type 0 where
-  kept : ((i : ℕ) (q : Rule) → nth rs i ≡ some q → takes best q d ≡ false) → Outcome best rs d best
-  taken : (r : Rule) → Governs rs d r → takes best r d ≡ true → Outcome best rs d (some r)
+  -- ---- the outcome
 
-same-some : {a b : Rule} → _≡_ {A = Option Rule} (some a) (some b) → a ≡ b
-same-some {a} {b} e = ap the e
-  where
-    the : Option Rule → Rule
-    the none = a
-    the (some r) = r
+  -- nothing of the list takes the place of the best so far, or what governs in the list does
+  data Outcome (best : Option A) (rs : List A) (d : ℕ) : Option A → Type 0 where
+    kept : ((i : ℕ) (q : A) → nth rs i ≡ some q → takes f best q d ≡ false) → Outcome best rs d best
+    taken : (r : A) → Governs f rs d r → takes f best r d ≡ true → Outcome best rs d (some r)
 
-not-none : {A : Type 0} {a : Rule} → _≡_ {A = Option Rule} none (some a) → A
-not-none e = let z : _≡_ {A = ℕ} 0 1 = ap holds e in absurd (omega arith)
-  where
-    holds : Option Rule → ℕ
-    holds none = 0
-    holds (some r) = 1
-
-not-both : {A : Type 0} {a : Bool} → a ≡ true → a ≡ false → A
-not-both e f = let z : _≡_ {A = Bool} true false = sym e ∙ f in absurd (let y : _≡_ {A = ℕ} 0 1 = cc in omega arith)
-
--- one more at the front
-module _ (q : Rule) (rs : List Rule) (d : ℕ) where
-  -- none of the rest is as high
-  first-governs : applies q d ≡ true → ((i : ℕ) (p : Rule) → nth rs i ≡ some p → takes (some q) p d ≡ false) → Governs (q ∷ rs) d q
-  first-governs a h = record { place = 0; listed = refl; on = a; highest = highest; last = last }
+  same-some : {a b : A} → _≡_ {A = Option A} (some a) (some b) → a ≡ b
+  same-some {a} {b} e = ap the e
     where
-      highest : (i : ℕ) (p : Rule) → nth (q ∷ rs) i ≡ some p → applies p d ≡ true → notLower q p ≡ true
-      highest zero p e b = rw⁻¹ (same-some e) (higher-self q)
-      highest (suc i) p e b = higher-turned p q (stays q p d (h i p e) b)
+      the : Option A → A
+      the none = a
+      the (some r) = r
 
-      last : (i : ℕ) (p : Rule) → 0 < i → nth (q ∷ rs) i ≡ some p → applies p d ≡ true → notLower p q ≡ false
-      last zero p l e b = absurd (omega arith)
-      last (suc i) p l e b = stays q p d (h i p e) b
-
-  -- one of the rest governs and is not lower than the first
-  rest-governs : (r : Rule) → Governs rs d r → (applies q d ≡ true → notLower r q ≡ true) → Governs (q ∷ rs) d r
-  rest-governs r g h = record { place = suc (g .place); listed = g .listed; on = g .on; highest = highest; last = last }
+  not-none : {P : Type 0} {a : A} → _≡_ {A = Option A} none (some a) → P
+  not-none e = let z : _≡_ {A = ℕ} 0 1 = ap holds e in absurd (omega arith)
     where
-      highest : (i : ℕ) (p : Rule) → nth (q ∷ rs) i ≡ some p → applies p d ≡ true → notLower r p ≡ true
-      highest zero p e b = rw⁻¹ (same-some e) (h (ap (λ (x : Rule). applies x d) (same-some e) ∙ b))
-      highest (suc i) p e b = g .highest i p e b
+      holds : Option A → ℕ
+      holds none = 0
+      holds (some r) = 1
 
-      last : (i : ℕ) (p : Rule) → suc (g .place) < i → nth (q ∷ rs) i ≡ some p → applies p d ≡ true → notLower p r ≡ false
-      last zero p l e b = absurd (omega arith)
-      last (suc i) p l e b = g .last i p (le-of-suc-le-suc l) e b
+  not-both : {P : Type 0} {a : Bool} → a ≡ true → a ≡ false → P
+  not-both e f = let z : _≡_ {A = Bool} true false = sym e ∙ f in absurd (let y : _≡_ {A = ℕ} 0 1 = cc in omega arith)
 
-  kept-first : (best : Option Rule) {now : Option Rule} → takes best q d ≡ false → Outcome best rs d now → Outcome best (q ∷ rs) d now
-  kept-first best t (kept h) = kept go
+  -- one more at the front
+  module _ (q : A) (rs : List A) (d : ℕ) where
+    -- none of the rest is as high
+    first-governs : applies (f q) d ≡ true → ((i : ℕ) (p : A) → nth rs i ≡ some p → takes f (some q) p d ≡ false) → Governs f (q ∷ rs) d q
+    first-governs a h = record { place = 0; listed = refl; on = a; highest = highest; last = last }
+      where
+        highest : (i : ℕ) (p : A) → nth (q ∷ rs) i ≡ some p → applies (f p) d ≡ true → notLower (f q) (f p) ≡ true
+        highest zero p e b = rw⁻¹ (same-some e) (higher-self (f q))
+        highest (suc i) p e b = higher-turned (f p) (f q) (stays q p d (h i p e) b)
+
+        last : (i : ℕ) (p : A) → 0 < i → nth (q ∷ rs) i ≡ some p → applies (f p) d ≡ true → notLower (f p) (f q) ≡ false
+        last zero p l e b = absurd (omega arith)
+        last (suc i) p l e b = stays q p d (h i p e) b
+
+    -- one of the rest governs and is not lower than the first
+    rest-governs : (r : A) → Governs f rs d r → (applies (f q) d ≡ true → notLower (f r) (f q) ≡ true) → Governs f (q ∷ rs) d r
+    rest-governs r g h = record { place = suc (g .place); listed = g .listed; on = g .on; highest = highest; last = last }
+      where
+        highest : (i : ℕ) (p : A) → nth (q ∷ rs) i ≡ some p → applies (f p) d ≡ true → notLower (f r) (f p) ≡ true
+        highest zero p e b = rw⁻¹ (same-some e) (h (ap (λ (x : A). applies (f x) d) (same-some e) ∙ b))
+        highest (suc i) p e b = g .highest i p e b
+
+        last : (i : ℕ) (p : A) → suc (g .place) < i → nth (q ∷ rs) i ≡ some p → applies (f p) d ≡ true → notLower (f p) (f r) ≡ false
+        last zero p l e b = absurd (omega arith)
+        last (suc i) p l e b = g .last i p (le-of-suc-le-suc l) e b
+
+    kept-first : (best : Option A) {now : Option A} → takes f best q d ≡ false → Outcome best rs d now → Outcome best (q ∷ rs) d now
+    kept-first best t (kept h) = kept go
+      where
+        go : (i : ℕ) (p : A) → nth (q ∷ rs) i ≡ some p → takes f best p d ≡ false
+        go zero p e = ap (λ (x : A). takes f best x d) (sym (same-some e)) ∙ t
+        go (suc i) p e = h i p e
+    kept-first best t (taken r g u) = taken r (rest-governs r g (takes-above best r q d u t)) u
+
+    taken-first : (best : Option A) {now : Option A} → takes f best q d ≡ true → Outcome (some q) rs d now → Outcome best (q ∷ rs) d now
+    taken-first best t (kept h) = taken q (first-governs (takes-applies best q d t) h) t
+    taken-first best t (taken r g u) = taken r (rest-governs r g (λ a. and-true (applies (f r) d) (notLower (f r) (f q)) u .1)) (takes-after best q r d t u)
+
+  outcome : (best : Option A) (rs : List A) (d : ℕ) → Outcome best rs d (governingFrom f best rs d)
+  unfolding governingFrom
+  outcome best [] d = kept (λ i q e. not-none e)
+  outcome best (q ∷ rs) d = go (takes f best q d) refl (outcome best rs d) (outcome (some q) rs d)
     where
-      go : (i : ℕ) (p : Rule) → nth (q ∷ rs) i ≡ some p → takes best p d ≡ false
-      go zero p e = ap (λ (x : Rule). takes best x d) (sym (same-some e)) ∙ t
-      go (suc i) p e = h i p e
-  kept-first best t (taken r g u) = taken r (rest-governs r g (takes-above best r q d u t)) u
+      go : (t : Bool) → takes f best q d ≡ t → Outcome best rs d (governingFrom f best rs d) → Outcome (some q) rs d (governingFrom f (some q) rs d)
+          → Outcome best (q ∷ rs) d (governingFrom f (cond t (some q) best) rs d)
+      go true t a b = taken-first q rs d best t b
+      go false t a b = kept-first q rs d best t a
 
-  taken-first : (best : Option Rule) {now : Option Rule} → takes best q d ≡ true → Outcome (some q) rs d now → Outcome best (q ∷ rs) d now
-  taken-first best t (kept h) = taken q (first-governs (takes-applies best q d t) h) t
-  taken-first best t (taken r g u) = taken r (rest-governs r g (λ a. and-true (applies r d) (notLower r q) u .1)) (takes-after best q r d t u)
+  -- ---- the laws
 
-outcome : (best : Option Rule) (rs : List Rule) (d : ℕ) → Outcome best rs d (governingFrom best rs d)
-unfolding governingFrom
-outcome best [] d = kept (λ i q e. not-none e)
-outcome best (q ∷ rs) d = go (takes best q d) refl (outcome best rs d) (outcome (some q) rs d)
-  where
-    go : (t : Bool) → takes best q d ≡ t → Outcome best rs d (governingFrom best rs d) → Outcome (some q) rs d (governingFrom (some q) rs d)
-        → Outcome best (q ∷ rs) d (governingFrom (cond t (some q) best) rs d)
-    go true t a b = taken-first q rs d best t b
-    go false t a b = kept-first q rs d best t a
+  module _ (rs : List A) (d : ℕ) where
+    pub governs : (r : A) → governingOf f rs d ≡ some r → Governs f rs d r
+    governs r e = go (outcome none rs d) e
+      where
+        go : {now : Option A} → Outcome none rs d now → now ≡ some r → Governs f rs d r
+        go (kept h) z = not-none z
+        go (taken q g t) z = rw (sym (same-some z)) g
 
--- ---- the laws
+    pub none-governs : governingOf f rs d ≡ none → (i : ℕ) (q : A) → nth rs i ≡ some q → applies (f q) d ≡ false
+    none-governs e i q l = go (outcome none rs d) e
+      where
+        go : {now : Option A} → Outcome none rs d now → now ≡ none → applies (f q) d ≡ false
+        go (kept h) z = h i q l
+        go (taken r g t) z = not-none (sym z)
 
-module _ (rs : List Rule) (d : ℕ) where
-  pub governs : (r : Rule) → governing rs d ≡ some r → Governs rs d r
-  governs r e = go (outcome none rs d) e
+    pub governs-none : ((i : ℕ) (q : A) → nth rs i ≡ some q → applies (f q) d ≡ false) → governingOf f rs d ≡ none
+    governs-none h = go (outcome none rs d)
+      where
+        go : {now : Option A} → Outcome none rs d now → now ≡ none
+        go (kept k) = refl
+        go (taken r g t) = not-both (g .on) (h (g .place) r (g .listed))
+
+    -- of two that govern, none is listed later: it would be lower and not lower
+    not-later : (r q : A) (g : Governs f rs d r) (k : Governs f rs d q) → g .place < k .place → ⊥
+    not-later r q g k l = not-both (k .highest (g .place) r (g .listed) (g .on)) (g .last (k .place) q l (k .listed) (k .on))
+
+    pub governs-once : (r q : A) → Governs f rs d r → Governs f rs d q → r ≡ q
+    governs-once r q g k = same-some (sym (g .listed) ∙ ap (nth rs) same-place ∙ k .listed)
+      where
+        same-place : g .place ≡ k .place
+        same-place = let a = not-later r q g k in let b = not-later q r k g in omega arith
+
+    pub governed-by : (r : A) → Governs f rs d r → governingOf f rs d ≡ some r
+    governed-by r g = go (outcome none rs d)
+      where
+        go : {now : Option A} → Outcome none rs d now → now ≡ some r
+        go (kept h) = not-both (g .on) (h (g .place) r (g .listed))
+        go (taken q k t) = ap some (governs-once q r k g)
+
+-- ---- what is chosen has the rule that is chosen among the rules
+
+abbrev pub itsRule : {A : Type 0} → (A → Rule) → Option A → Option Rule
+itsRule f none = none
+itsRule f (some x) = some (f x)
+
+module _ {A : Type 0} (f : A → Rule) (d : ℕ) where
+  same-takes : (best : Option A) (x : A) → takes f best x d ≡ takes (λ (r : Rule). r) (itsRule f best) (f x) d
+  same-takes none x = refl
+  same-takes (some b) x = refl
+
+  rule-from : (best : Option A) (xs : List A) → itsRule f (governingFrom f best xs d) ≡ governingFrom (λ (r : Rule). r) (itsRule f best) (map f xs) d
+  unfolding governingFrom
+  rule-from best [] = refl
+  rule-from best (x ∷ xs) =
+      rule-from (cond (takes f best x d) (some x) best) xs
+      ∙ ap (λ (o : Option Rule). governingFrom (λ (r : Rule). r) o (map f xs) d) (go (takes f best x d) (same-takes best x))
     where
-      go : {now : Option Rule} → Outcome none rs d now → now ≡ some r → Governs rs d r
-      go (kept h) z = not-none z
-      go (taken q g t) z = rw (sym (same-some z)) g
+      go : (t : Bool) {u : Bool} → t ≡ u → itsRule f (cond t (some x) best) ≡ cond u (some (f x)) (itsRule f best)
+      go true e = rw⁻¹ e
+      go false e = rw⁻¹ e
 
-  pub none-governs : governing rs d ≡ none → (i : ℕ) (q : Rule) → nth rs i ≡ some q → applies q d ≡ false
-  none-governs e i q l = go (outcome none rs d) e
-    where
-      go : {now : Option Rule} → Outcome none rs d now → now ≡ none → applies q d ≡ false
-      go (kept h) z = h i q l
-      go (taken r g t) z = not-none (sym z)
-
-  pub governs-none : ((i : ℕ) (q : Rule) → nth rs i ≡ some q → applies q d ≡ false) → governing rs d ≡ none
-  governs-none h = go (outcome none rs d)
-    where
-      go : {now : Option Rule} → Outcome none rs d now → now ≡ none
-      go (kept k) = refl
-      go (taken r g t) = not-both (g .on) (h (g .place) r (g .listed))
-
-  -- of two that govern, none is listed later: it would be lower and not lower
-  not-later : (r q : Rule) (g : Governs rs d r) (k : Governs rs d q) → g .place < k .place → ⊥
-  not-later r q g k l = not-both (k .highest (g .place) r (g .listed) (g .on)) (g .last (k .place) q l (k .listed) (k .on))
-
-  pub governs-once : (r q : Rule) → Governs rs d r → Governs rs d q → r ≡ q
-  governs-once r q g k = same-some (sym (g .listed) ∙ ap (nth rs) same-place ∙ k .listed)
-    where
-      same-place : g .place ≡ k .place
-      same-place = let a = not-later r q g k in let b = not-later q r k g in omega arith
-
-  pub governed-by : (r : Rule) → Governs rs d r → governing rs d ≡ some r
-  governed-by r g = go (outcome none rs d)
-    where
-      go : {now : Option Rule} → Outcome none rs d now → now ≡ some r
-      go (kept h) = not-both (g .on) (h (g .place) r (g .listed))
-      go (taken q k t) = ap some (governs-once q r k g)
+  pub governing-rule : (xs : List A) → itsRule f (governingOf f xs d) ≡ governing (map f xs) d
+  governing-rule xs = rule-from none xs

@@ -1,6 +1,7 @@
 pub mod Choosing
 pub mod Governs
 pub mod Narrowing
+pub mod Keeping
 pub mod Cutting
 pub mod Points
 pub mod Theorems

@@ -36,7 +36,7 @@ from-places f (p ∷ ps) (suc i) r e = let on = from-places f ps i r e in (omega
 
 pub governing-listed : (s : List ℕ) → refusal base s ≡ 0 → (d : ℕ) (r : Rule) → governing (rulesOf (records s)) d ≡ some r → Source s r
 governing-listed s e d r g =
-    let k = governs (rulesOf (records s)) d r g in
+    let k = governs (λ (x : Rule). x) (rulesOf (records s)) d r g in
     let on = from-places (ruleAt s) (rulePlaces s) (k .place) r (ap (λ (rs : List Rule). nth rs (k .place)) (rules-listed s e) ∙ k .listed) in
     record { place = getD (rulePlaces s) (k .place) 0; listed = places-listed 3 s e (k .place) (on .0); is = on .1 }
 

@@ -1,7 +1,7 @@
 -- The rules near a date govern it as all rules do: one that does not apply never takes the place of another. Assumes nothing.
 use mathlib.Core.Path.{_≡_, refl, sym, ap, _∙_}
 use mathlib.Core.Bool.{Bool, true, false, cond, and-false}
-use mathlib.Core.List.{List, [], _∷_, map}
+use mathlib.Core.List.{List, [], _∷_}
 use mathlib.Core.Option.{Option, none, some}
 use Prim.Native.Nat.{ℕ, zero, suc, _+_, _≤_, _<_}
 use native.Mathlib.Nat.{le-of-suc-le-suc}
@@ -16,7 +16,7 @@ use Rattle.records.specs.Records.{Rule, ruleAt}
 use Rattle.venue.specs.Opening.{dayOf}
 use Rattle.venue.specs.Reading.{ListedRules}
 use Rattle.venue.proofs.Passing.{Storing, storing-start, storing-one, storing-end}
-use Rattle.day.specs.Governing.{applies, takes, governingFrom, governing}
+use Rattle.day.specs.Governing.{applies, takes, governingFrom, governingPlace}
 use Rattle.day.specs.Narrowing.{meets, nearOf}
 
 -- ---- the rules left out
@@ -33,27 +33,25 @@ module _ (r : Rule) {from to d : ℕ} (l : from ≤ d) (h : d ≤ to) where
           simp (lt-leb d (dayOf (r .last)) (omega arith), and-false (leb (dayOf (r .first)) d))
       go false q = let b = leb-false (dayOf (r .first)) to q in simp (lt-leb (dayOf (r .first)) d (omega arith))
 
-  never-takes : (best : Option Rule) → meets r from to ≡ false → takes best r d ≡ false
-  never-takes none e = not-on e
-  never-takes (some b) e = simp (not-on e)
-
 module _ (s : List ℕ) {from to d : ℕ} (l : from ≤ d) (h : d ≤ to) where
-  near-from : (best : Option Rule) (ps : List ℕ) → governingFrom best (map (ruleAt s) (nearOf s ps from to)) d ≡ governingFrom best (map (ruleAt s) ps) d
+  never-takes : (best : Option ℕ) (p : ℕ) → meets (ruleAt s p) from to ≡ false → takes (ruleAt s) best p d ≡ false
+  never-takes none p e = not-on (ruleAt s p) l h e
+  never-takes (some b) p e = simp (not-on (ruleAt s p) l h e)
+
+  near-from : (best : Option ℕ) (ps : List ℕ) → governingFrom (ruleAt s) best (nearOf s ps from to) d ≡ governingFrom (ruleAt s) best ps d
   unfolding governingFrom nearOf
   near-from best [] = refl
   near-from best (p ∷ ps) = go (λ b. near-from b ps) (meets (ruleAt s p) from to) refl
     where
-      go : ((b : Option Rule) → governingFrom b (map (ruleAt s) (nearOf s ps from to)) d ≡ governingFrom b (map (ruleAt s) ps) d)
+      go : ((b : Option ℕ) → governingFrom (ruleAt s) b (nearOf s ps from to) d ≡ governingFrom (ruleAt s) b ps d)
           → (q : Bool) → meets (ruleAt s p) from to ≡ q
-          → governingFrom best (map (ruleAt s) (cond q (p ∷ nearOf s ps from to) (nearOf s ps from to))) d
-          ≡ governingFrom (cond (takes best (ruleAt s p) d) (some (ruleAt s p)) best) (map (ruleAt s) ps) d
-      go more true q = more (cond (takes best (ruleAt s p) d) (some (ruleAt s p)) best)
-      go more false q =
-          more best
-          ∙ ap (λ (t : Bool). governingFrom (cond t (some (ruleAt s p)) best) (map (ruleAt s) ps) d) (sym (never-takes (ruleAt s p) l h best q))
+          → governingFrom (ruleAt s) best (cond q (p ∷ nearOf s ps from to) (nearOf s ps from to)) d
+          ≡ governingFrom (ruleAt s) (cond (takes (ruleAt s) best p d) (some p) best) ps d
+      go more true q = more (cond (takes (ruleAt s) best p d) (some p) best)
+      go more false q = more best ∙ ap (λ (t : Bool). governingFrom (ruleAt s) (cond t (some p) best) ps d) (sym (never-takes best p q))
 
   -- on a day from `from` to `to` the rules near it choose as all do
-  pub near-governing : (ps : List ℕ) → governing (map (ruleAt s) (nearOf s ps from to)) d ≡ governing (map (ruleAt s) ps) d
+  pub near-governing : (ps : List ℕ) → governingPlace s (nearOf s ps from to) d ≡ governingPlace s ps d
   near-governing ps = near-from none ps
 
 -- ---- the places

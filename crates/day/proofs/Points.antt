@@ -12,7 +12,7 @@ use Rattle.spans.specs.Spans.{Span, keep, holds, look, Within}
 use Rattle.spans.specs.Timeline.{Edge, Venue, Part, raised, between, cut, ofPoints, ofRule, spans, pointAt}
 use Rattle.spans.proofs.Lists.{before}
 use Rattle.spans.proofs.Walking.{spans-within}
-use Rattle.day.specs.Days.{Held, venueBy, after}
+use Rattle.day.specs.Days.{Held, venueBy, after, isKnown, holdsOn, holdingDate}
 use Rattle.venue.specs.Reading.{ListedRule}
 use Rattle.day.specs.Meaning.{held, heldBy, begun, Placed, Stands}
 use Rattle.day.specs.declared.Governed.{Governed}
@@ -128,11 +128,11 @@ begun-held s (Whole g) t = go (leb (g .start .at .0) t)
     go true = refl
     go false = refl
 
-pub begun-placed : (s : List ℕ) (r : Spanned) (t : ℕ) → Placed s r → Placed s (begun r t)
-begun-placed s Missing t p = tt
-begun-placed s (Whole g) t p = go (leb (g .start .at .0) t)
+pub begun-placed : (s : List ℕ) (o : Option ℕ) (r : Spanned) (t : ℕ) → Placed s o r → Placed s o (begun r t)
+begun-placed s o Missing t p = tt
+begun-placed s o (Whole g) t p = go (leb (g .start .at .0) t)
   where
-    go : (b : Bool) → Placed s (cond b (Whole g) Missing)
+    go : (b : Bool) → Placed s o (cond b (Whole g) Missing)
     go true = p
     go false = tt
 
@@ -192,3 +192,20 @@ module _ (v : Venue Held) (c : Part) (t : ℕ) where
       pub by-third : none ≡ on d → (o : Option Held) → o ≡ on (suc d) → o ≡ pointAt (λ (h : Held). h) v c t
       by-third m o e =
           e ∙ ap (λ (x : Option Held). orElse x (on (suc d))) m ∙ ap (λ (x : Option Held). orElse x (orElse (on d) (on (suc d)))) n ∙ three
+
+    -- and the date that holds t is that one
+    pub on-first : {x : Held} → some x ≡ on (d - 1) → holdingDate v t ≡ d - 1
+    on-first e = rw⁻¹ q (ap (λ (o : Option Held). cond (isKnown o) (d - 1) (cond (holdsOn v t d) d (suc d))) (sym e))
+
+    module _ (n : none ≡ on (d - 1)) where
+      pub on-second : {x : Held} → some x ≡ on d → holdingDate v t ≡ d
+      on-second e =
+          rw⁻¹ q
+          (ap (λ (o : Option Held). cond (isKnown o) (d - 1) (cond (holdsOn v t d) d (suc d))) (sym n)
+          ∙ ap (λ (o : Option Held). cond (isKnown o) d (suc d)) (sym e))
+
+      pub on-third : none ≡ on d → holdingDate v t ≡ suc d
+      on-third m =
+          rw⁻¹ q
+          (ap (λ (o : Option Held). cond (isKnown o) (d - 1) (cond (holdsOn v t d) d (suc d))) (sym n)
+          ∙ ap (λ (o : Option Held). cond (isKnown o) d (suc d)) (sym m))

@@ -1,6 +1,6 @@
 -- A venue's values, a date's spans, and the point: document 01, phase rules 2 and 3. Assumes nothing.
-use Prim.Native.Nat.{ℕ}
-use mathlib.Core.Bool.{cond}
+use Prim.Native.Nat.{ℕ, suc, _-_}
+use mathlib.Core.Bool.{cond, Bool, true, false}
 use mathlib.Core.List.{List, [], _∷_}
 use mathlib.Core.Option.{Option, none, some}
 use lib.Dec.{ltb}
@@ -12,8 +12,8 @@ use Rattle.zone.specs.declared.Uncertainty.{Uncertainty}
 use Rattle.records.specs.Records.{Coverage, Rule, Event, Record}
 use Rattle.venue.specs.Opening.{offsetOf, atsOf, offsetsOf, rulesOf, eventsOf}
 use Rattle.venue.specs.Reading.{published}
-use Rattle.spans.specs.Spans.{Span}
-use Rattle.spans.specs.Timeline.{Edge, Venue, Part, pointAt}
+use Rattle.spans.specs.Spans.{Span, look}
+use Rattle.spans.specs.Timeline.{Edge, Venue, Part, pointAt, spans}
 use Rattle.day.specs.Governing.{governing}
 
 -- a venue's values: coverage, zone, which rule governs a date, and the event rules
@@ -67,6 +67,18 @@ whole h = widestOf (h .start .uncertainty) (h .end .uncertainty)
 unfoldable pub after : {A : Type 0} → ℕ → List (Span A) → Option A
 after t [] = none
 after t (s ∷ ss) = cond (ltb t (s .to)) (some (s .body)) (after t ss)
+
+-- a span of the date holds t
+abbrev pub isKnown : {A : Type 0} → Option A → Bool
+isKnown none = false
+isKnown (some x) = true
+
+abbrev pub holdsOn : {A : Type 0} → Venue A → ℕ → ℕ → Bool
+holdsOn {A} v t d = isKnown (look (λ (x : A). x) (spans v d) t)
+
+-- the first of yesterday, today and tomorrow with one; tomorrow where none has
+abbrev pub holdingDate : {A : Type 0} → Venue A → ℕ → ℕ
+holdingDate v t = let d = v .reads t in cond (holdsOn v t (d - 1)) (d - 1) (cond (holdsOn v t d) d (suc d))
 
 -- the point answer: a known one is a whole span, clipped by nothing
 abbrev pub pointOf : Values → ℕ → Option Held

@@ -6,7 +6,7 @@ use mathlib.Core.List.{List, [], _∷_}
 use mathlib.Core.Option.{Option, none, some}
 use lib.Dec.{ltb, leb, eqb}
 use Rattle.calendar.specs.Answers.{weekdayOf}
-use Rattle.records.specs.Records.{Rule}
+use Rattle.records.specs.Records.{Rule, ruleAt}
 use Rattle.venue.specs.Opening.{dayOf}
 
 -- weekly 10, announced 20, holiday and shortened 30
@@ -30,18 +30,27 @@ notLower r b =
     ltb (precedence (b .code)) (precedence (r .code))
     || (eqb (precedence (b .code)) (precedence (r .code)) && leb (dayOf (b .first)) (dayOf (r .first)))
 
--- r takes the place of the best so far
-abbrev pub takes : Option Rule → Rule → ℕ → Bool
-takes none r d = applies r d
-takes (some b) r d = applies r d && notLower r b
+-- ---- the choice, among any things x that have a rule f x: rules themselves, or their places in a book
 
-unfoldable pub governingFrom : Option Rule → List Rule → ℕ → Option Rule
-governingFrom best [] d = best
-governingFrom best (r ∷ rs) d = governingFrom (cond (takes best r d) (some r) best) rs d
+-- x takes the place of the best so far
+abbrev pub takes : {A : Type 0} → (A → Rule) → Option A → A → ℕ → Bool
+takes f none x d = applies (f x) d
+takes f (some b) x d = applies (f x) d && notLower (f x) (f b)
+
+unfoldable pub governingFrom : {A : Type 0} → (A → Rule) → Option A → List A → ℕ → Option A
+governingFrom f best [] d = best
+governingFrom f best (x ∷ xs) d = governingFrom f (cond (takes f best x d) (some x) best) xs d
 
 -- the highest that applies, the last listed of those that tie
+abbrev pub governingOf : {A : Type 0} → (A → Rule) → List A → ℕ → Option A
+governingOf f xs d = governingFrom f none xs d
+
+-- the rule that governs a date, and where it stands, of those at the places of a book
 abbrev pub governing : List Rule → ℕ → Option Rule
-governing rs d = governingFrom none rs d
+governing rs d = governingOf (λ (r : Rule). r) rs d
+
+abbrev pub governingPlace : List ℕ → List ℕ → ℕ → Option ℕ
+governingPlace s places d = governingOf (ruleAt s) places d
 
 -- ---- what governing means
 
@@ -50,10 +59,10 @@ nth [] i = none
 nth (x ∷ xs) zero = some x
 nth (x ∷ xs) (suc i) = nth xs i
 
--- it applies, no applying rule is higher, and of those listed after it none that applies is as high
-pub record Governs (rs : List Rule) (d : ℕ) (r : Rule) : Type 0 where
+-- its rule applies, no applying rule is higher, and of those listed after it none that applies is as high
+pub record Governs {A : Type 0} (f : A → Rule) (xs : List A) (d : ℕ) (x : A) : Type 0 where
   pub place : ℕ
-  pub listed : nth rs place ≡ some r
-  pub on : applies r d ≡ true
-  pub highest : (i : ℕ) (q : Rule) → nth rs i ≡ some q → applies q d ≡ true → notLower r q ≡ true
-  pub last : (i : ℕ) (q : Rule) → place < i → nth rs i ≡ some q → applies q d ≡ true → notLower q r ≡ false
+  pub listed : nth xs place ≡ some x
+  pub on : applies (f x) d ≡ true
+  pub highest : (i : ℕ) (y : A) → nth xs i ≡ some y → applies (f y) d ≡ true → notLower (f x) (f y) ≡ true
+  pub last : (i : ℕ) (y : A) → place < i → nth xs i ≡ some y → applies (f y) d ≡ true → notLower (f y) (f x) ≡ false

@@ -1,5 +1,6 @@
 pub mod Governing
 pub mod Narrowing
+pub mod Keeping
 pub mod Days
 pub mod Meaning
 pub mod Examples

@@ -8,6 +8,7 @@ use Rattle.zone.specs.Zone.{zoneOf}
 use Rattle.records.specs.Records.{Rule, ruleAt, eventAt}
 use Rattle.venue.specs.Reading.{ListedRule}
 use Rattle.venue.specs.declared.opened.Header.{Header}
+use mathlib.Core.Path.{_≡_}
 use Rattle.day.specs.Governing.{governing}
 use Rattle.day.specs.Days.{Values, Held}
 use Rattle.day.specs.declared.Governed.{Governed}
@@ -30,6 +31,11 @@ abbrev pub ruled : List ℕ → Governed → Option Rule
 ruled s Nothing = none
 ruled s (By p) = some (ruleAt s p)
 
+-- the place that an answer says
+abbrev pub placeOf : Governed → Option ℕ
+placeOf Nothing = none
+placeOf (By p) = some p
+
 -- a rule stands where an answer says
 abbrev pub Stands : List ℕ → Governed → Type 0
 Stands s Nothing = Unit {0}
@@ -42,10 +48,10 @@ abbrev pub held : List ℕ → Spanned → Option Held
 held s Missing = none
 held s (Whole g) = some (heldBy s g)
 
--- a rule stands where a segment says
-abbrev pub Placed : List ℕ → Spanned → Type 0
-Placed s Missing = Unit {0}
-Placed s (Whole g) = ListedRule s (g .rule)
+-- a rule stands where a segment says, and that is the place o
+abbrev pub Placed : List ℕ → Option ℕ → Spanned → Type 0
+Placed s o Missing = Unit {0}
+Placed s o (Whole g) = ListedRule s (g .rule) × (o ≡ some (g .rule))
 
 -- a span, if it has begun at t
 abbrev pub begun : Spanned → ℕ → Spanned

@@ -8,8 +8,8 @@ ghost use Rattle.records.specs.Records.{ruleAt};
 ghost use Rattle.venue.specs.Reading.{ListedRules};
 ghost use Rattle.spans.specs.Spans.{look};
 ghost use Rattle.spans.specs.Timeline.{spans, pointAt};
-ghost use Rattle.day.specs.Governing.{governing as Governing·governing};
-ghost use Rattle.day.specs.Days.{Held, venueBy, after};
+ghost use Rattle.day.specs.Governing.{governing as Governing·governing, governingPlace};
+ghost use Rattle.day.specs.Days.{Held, venueBy, after, holdingDate};
 ghost use Rattle.day.specs.Meaning.{held, Placed, begun as Meaning·begun};
 use crate::Governed;
 use crate::Spanned;
@@ -33,7 +33,7 @@ pub fn day_span_after(
     ensures { λ r. ⌜ (held (now (book .entry)) r
         ≡ after (t .0) (spans (venueBy (zoneOf first (now (ats .entry)) (now (offsets .entry)))
         (Governing·governing (map (ruleAt (now (book .entry))) (now (rules .entry))))) (d .0)))
-        × Placed (now (book .entry)) r ⌝ }
+        × Placed (now (book .entry)) (governingPlace (now (book .entry)) (now (rules .entry)) (d .0)) r ⌝ }
 {
     match governing(book, rules, d) {
         Governed::Nothing => Spanned::Missing,
@@ -73,7 +73,7 @@ fn day_holding(
     ensures { λ r. ⌜ (held (now (book .entry)) r
         ≡ look (λ (h : Held). h) (spans (venueBy (zoneOf first (now (ats .entry)) (now (offsets .entry)))
         (Governing·governing (map (ruleAt (now (book .entry))) (now (rules .entry))))) (d .0)) (t .0))
-        × Placed (now (book .entry)) r ⌝ }
+        × Placed (now (book .entry)) (governingPlace (now (book .entry)) (now (rules .entry)) (d .0)) r ⌝ }
 {
     begun(day_span_after(book, first, ats, offsets, rules, d, t), t)
 }
@@ -103,7 +103,10 @@ pub fn point(
     ensures { λ r. ⌜ (held (now (book .entry)) r
         ≡ pointAt (λ (h : Held). h) (venueBy (zoneOf first (now (ats .entry)) (now (offsets .entry)))
         (Governing·governing (map (ruleAt (now (book .entry))) (now (rules .entry))))) (record { start = start .0; end = end .0 }) (t .0))
-        × Placed (now (book .entry)) r ⌝ }
+        × Placed (now (book .entry))
+        (governingPlace (now (book .entry)) (now (rules .entry))
+        (holdingDate (venueBy (zoneOf first (now (ats .entry)) (now (offsets .entry)))
+        (Governing·governing (map (ruleAt (now (book .entry))) (now (rules .entry))))) (t .0))) r ⌝ }
 {
     if t.0 < start.0 {
         return Spanned::Missing;

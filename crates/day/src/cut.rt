@@ -1,6 +1,6 @@
 // A date cut into spans by its rule's points.
 ghost use mathlib.Core.Path.{_≡_};
-ghost use mathlib.Core.Option.{none};
+ghost use mathlib.Core.Option.{none, some};
 ghost use Prim.Native.Nat.{suc, max};
 ghost use mathlib.Core.Bool.{_&&_};
 ghost use lib.Dec.{ltb};
@@ -86,7 +86,7 @@ pub fn span_after(
     ensures { λ r. ⌜ (held (now (book .entry)) r
         ≡ after (t .0) (ofPoints (venueBy (zoneOf first (now (ats .entry)) (now (offsets .entry))) (λ x. none))
         (ruleAt (now (book .entry)) rule) (d .0) (ruleAt (now (book .entry)) rule .points)))
-        × Placed (now (book .entry)) r ⌝ }
+        × Placed (now (book .entry)) (some rule) r ⌝ }
 {
     let place = rule as usize;
     let published = rule_uncertainty(book, place);

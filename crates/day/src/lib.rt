@@ -3,6 +3,7 @@
 mod ask;
 mod cut;
 mod govern;
+mod keep;
 mod narrow;
 
 pub use ask::day_span_after;
@@ -10,6 +11,8 @@ pub use ask::point;
 pub use cut::midnight_after;
 pub use cut::span_after;
 pub use govern::governing;
+pub use keep::MOST_KEPT;
+pub use keep::governing_near;
 pub use narrow::near;
 use zone::Boundary;
 

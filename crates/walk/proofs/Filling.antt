@@ -2,6 +2,7 @@
 use mathlib.Core.Path.{_≡_, refl, sym, ap, ap₂, _∙_, subst}
 use mathlib.Core.Bool.{Bool, true, false, _&&_}
 use mathlib.Core.List.{List, _++_}
+use mathlib.Core.Logic.{_↔_}
 use Prim.Native.Nat.{ℕ, suc, _+_, _≤_, _<_, max}
 use native.Mathlib.Decide.{decLt}
 use native.Mathlib.Nat.{zero-add}
@@ -70,39 +71,55 @@ module _ (z : Zone) (r : Rule) (d : ℕ) where
 
 -- ---- none in doubt
 
--- an exact time stays exact where it has one instant, and then every time stays as published
-pub exact-clear : (r : Resolution) → isExact (uncertain r Exact) ≡ true → (u : Uncertainty) → uncertain r u ≡ u
-exact-clear (Clear t) e u = refl
-exact-clear (Fold d) e u = absurd (let n : _≡_ {A = ℕ} 0 1 = cc in omega arith)
-exact-clear (Gap d) e u = absurd (let n : _≡_ {A = ℕ} 0 1 = cc in omega arith)
+-- an exact time stays exact exactly where it has one instant, and then every time stays as published
+pub exact-clear : (r : Resolution) → (isExact (uncertain r Exact) ≡ true) ↔ ((u : Uncertainty) → uncertain r u ≡ u)
+exact-clear r = (to r, λ c. ap isExact (c Exact))
+  where
+    to : (x : Resolution) → isExact (uncertain x Exact) ≡ true → (u : Uncertainty) → uncertain x u ≡ u
+    to (Clear t) e u = refl
+    to (Fold d) e u = absurd (let n : _≡_ {A = ℕ} 0 1 = cc in omega arith)
+    to (Gap d) e u = absurd (let n : _≡_ {A = ℕ} 0 1 = cc in omega arith)
 
-and-true : (a b : Bool) → (a && b) ≡ true → (a ≡ true) × (b ≡ true)
-and-true true b e = (refl, e)
-and-true false b e = absurd (let n : _≡_ {A = ℕ} 0 1 = cc in omega arith)
+and-true : (a b : Bool) → ((a && b) ≡ true) ↔ ((a ≡ true) × (b ≡ true))
+and-true true b = (λ e. (refl, e), λ p. p .1)
+and-true false b = (λ e. absurd (let n : _≡_ {A = ℕ} 0 1 = cc in omega arith), λ p. p .0)
+
+-- by the uncertainty of an exact time
+module _ (z : Zone) (d x : ℕ) {u : Uncertainty} (is : u ≡ uncertain (resolve z (nearestReading (readingAt d x))) Exact) {more : Bool} (so : more ≡ isExact u) where
+  time-clear : (more ≡ true) ↔ Walking.Clear z d x
+  time-clear =
+      let e : more ≡ isExact (uncertain (resolve z (nearestReading (readingAt d x))) Exact) = so ∙ ap isExact is in
+      let c = exact-clear (resolve z (nearestReading (readingAt d x))) in
+      (λ q. c .0 (sym e ∙ q), λ k. e ∙ c .1 k)
 
 module _ (z : Zone) (r : Rule) (d : ℕ) where
-  -- if `calm`, the first i points
+  -- `calm` exactly where none of the first i points is
   abbrev pub ClearTo : Bool → ℕ → Type 0
-  ClearTo calm i = calm ≡ true → (j : ℕ) → j < i → Walking.Clear z d (pointAt z r d j .time)
+  ClearTo calm i = (calm ≡ true) ↔ ((j : ℕ) → j < i → Walking.Clear z d (pointAt z r d j .time))
+
+  pub clear-none : ClearTo true 0
+  clear-none = (λ e j h. absurd (omega arith), λ c. refl)
 
   module _ (calm more : Bool) (i : ℕ) (c : ClearTo calm i) where
     pub clear-next : (u : Uncertainty) → u ≡ uncertain (resolve z (nearestReading (readingAt d (pointAt z r d i .time)))) Exact
         → more ≡ isExact u → ClearTo (calm && more) (i + 1)
-    clear-next u e f q j h =
-        let b = and-true calm more q in
-        let x : isExact (uncertain (resolve z (nearestReading (readingAt d (pointAt z r d i .time)))) Exact) ≡ true = sym (ap isExact e) ∙ sym f ∙ b .1 in
-        go (b .0) (exact-clear (resolve z (nearestReading (readingAt d (pointAt z r d i .time)))) x) (decLt j i)
+    clear-next u e f =
+        let own = time-clear z d (pointAt z r d i .time) e f in
+        let both = and-true calm more in (
+          λ q j h. go (c .0 (both .0 q .0)) (own .0 (both .0 q .1)) j (decLt j i) h,
+          λ k. both .1 (c .1 (λ j h. k j (omega arith)), own .1 (k i (omega arith))),
+        )
       where
-        go : calm ≡ true → Walking.Clear z d (pointAt z r d i .time) → Dec (j < i) → Walking.Clear z d (pointAt z r d j .time)
-        go a k (yes l) = c a j l
-        go a k (no l) = let o : j ≡ i = omega arith in rw o k
+        go : ((j : ℕ) → j < i → Walking.Clear z d (pointAt z r d j .time)) → Walking.Clear z d (pointAt z r d i .time) → (j : ℕ) → Dec (j < i)
+            → j < i + 1 → Walking.Clear z d (pointAt z r d j .time)
+        go a k j (yes l) h = a j l
+        go a k j (no l) h = let o : j ≡ i = omega arith in rw o k
 
-    pub clear-all : length (r .points) ≤ i → (u : Uncertainty) → u ≡ uncertain (resolve z (nearestReading (readingAt (suc d) 0))) Exact
-        → more ≡ isExact u → (calm && more) ≡ true → Calm z r d
-    clear-all l u e f q =
-        let b = and-true calm more q in
-        let x : isExact (uncertain (resolve z (nearestReading (readingAt (suc d) 0))) Exact) ≡ true = sym (ap isExact e) ∙ sym f ∙ b .1 in
-        record {
-          points = λ j h. c (b .0) j (omega arith);
-          midnight = exact-clear (resolve z (nearestReading (readingAt (suc d) 0))) x;
-        }
+    pub clear-all : i ≡ length (r .points) → (u : Uncertainty) → u ≡ uncertain (resolve z (nearestReading (readingAt (suc d) 0))) Exact
+        → more ≡ isExact u → ((calm && more) ≡ true) ↔ Calm z r d
+    clear-all l u e f =
+        let last = time-clear z (suc d) 0 e f in
+        let both = and-true calm more in (
+          λ q. record { points = λ j h. c .0 (both .0 q .0) j (omega arith); midnight = last .0 (both .0 q .1) },
+          λ k. both .1 (c .1 (λ j h. k .points j (omega arith)), last .1 (k .midnight)),
+        )

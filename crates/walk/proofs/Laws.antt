@@ -127,7 +127,7 @@ rest-length {v = v} {turns = turns} {cursor = cursor} few b hi =
 pub rules-few : (s : List ℕ) (rules : List ℕ) → ListedRules s rules → (d : ℕ) (r : Rule) → governing (map (ruleAt s) rules) d ≡ some r
     → length (r .points) ≤ base .points
 rules-few s rules listed d r e =
-    let g = governs (map (ruleAt s) rules) d r e in
+    let g = governs (λ (x : Rule). x) (map (ruleAt s) rules) d r e in
     go rules (g .place) listed (g .listed)
   where
     go : (ps : List ℕ) (i : ℕ) → ListedRules s ps → nth (map (ruleAt s) ps) i ≡ some r → length (r .points) ≤ base .points

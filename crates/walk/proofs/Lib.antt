@@ -1,9 +1,9 @@
 pub mod Edges
 pub mod Filling
-pub mod Keeping
 pub mod Laws
 pub mod Looking
 pub mod Near
+pub mod Once
 pub mod Pieces
 pub mod Rest
 pub mod Shifting

@@ -1,5 +1,6 @@
 -- What is left of a walk: hidden spans may be passed over, a span that shows comes first, and where none is left the turn leads on.
 -- Assumes nothing.
+use mathlib.Core.Logic.{_↔_}
 use mathlib.Core.Path.{_≡_, refl, sym, ap, ap₂, _∙_, subst}
 use mathlib.Core.Bool.{Bool, true, false, cond, _||_}
 use mathlib.Core.List.{List, [], _∷_, _++_}
@@ -227,7 +228,7 @@ module _ (first : ℕ) (ats os : List ℕ) (good : Valid first ats os) (s : List
             first =
                 ap (restWith v hi w) here-is
                 ∙ rest-first v hi w (shownPart s z piece) (clip to hi (left z r d (k + 1))) (By p) (k + 1) (w .calm) (omega arith);
-            fits = record { listed = kept-by .0; point = omega arith; shows = apart; short = omega (arith, start-is, end-is, near); calm = λ i. calm-span s z piece (omega arith) (kept-by .3 i) };
+            fits = record { listed = kept-by .0; point = omega arith; shows = apart; short = omega (arith, start-is, end-is, near); calm = λ i. calm-span s z piece (omega arith) (kept-by .3 .0 i) };
             stands = record { kept = (kept-by .0, omega arith, kept-by .2, kept-by .3); forward = omega arith };
             turns = refl;
           }
@@ -283,12 +284,12 @@ module _ (v : Venue Held) (hi turns began cursor date next : ℕ) (e : next ≡ 
 -- ---- a turn begins
 
 -- a date without a rule, and one whose boundaries are written
-pub kept-nothing : (s : List ℕ) (z : Zone) (d : ℕ) (calm : Bool) (a : List ℕ) {o : Governed} → o ≡ Nothing → Kept s z d 0 calm o a
-kept-nothing s z d calm a e = subst (λ (g : Governed). Kept s z d 0 calm g a) (sym e) tt
+pub kept-nothing : (s : List ℕ) (z : Zone) (d : ℕ) (a : List ℕ) {o : Governed} → o ≡ Nothing → Kept s z d 0 true o a
+kept-nothing s z d a e = subst (λ (g : Governed). Kept s z d 0 true g a) (sym e) refl
 
 pub kept-rule : (s : List ℕ) (z : Zone) (d : ℕ) (a old : List ℕ) (p : ℕ) {o : Governed} → o ≡ By p → ListedRule s p
     → a ≡ wrote old 0 (edgeInstants z (ruleAt s p) d) → {calm : Bool}
-    → (calm ≡ true → Calm z (ruleAt s p) d) → Kept s z d 0 calm o a
+    → ((calm ≡ true) ↔ Calm z (ruleAt s p) d) → Kept s z d 0 calm o a
 unfolding wrote
 kept-rule s z d a old p e h w {calm} f =
     subst (λ (g : Governed). Kept s z d 0 calm g a) (sym e)
@@ -315,7 +316,6 @@ module _ (s : List ℕ) (z : Zone) (g : ℕ → Option Rule) (t : ℕ) (c : Inst
   unfolding rest
   begun =
       record {
-        left = refl;
         stands = record { kept = kept; forward = omega arith };
         all = λ hi.
             ap (restWith (venueBy z g) hi start) (ap (clip (c .0) hi) all-spans)

@@ -1,6 +1,9 @@
 -- A step of the walk, as its two functions take it: what of the date at hand shows, and where a date leads that shows no more. Assumes nothing.
-use Prim.Native.Nat.{ℕ, _+_, _≤_, _<_, min, max}
+use Prim.Native.Nat.{ℕ, _+_, _-_, _≤_, _<_, min, max}
 use mathlib.Core.Path.{_≡_}
+use mathlib.Core.Bool.{Bool, true, false, not, _||_}
+use mathlib.Core.Option.{none}
+use lib.Dec.{leb, eqb}
 use mathlib.Core.List.{List, []}
 use lib.ListN.{length, getD}
 use Rattle.zone.specs.Zone.{Zone}
@@ -8,10 +11,10 @@ use Rattle.records.specs.Records.{ruleAt}
 use Rattle.venue.specs.Reading.{ListedRule}
 use Rattle.spans.specs.Spans.{clip}
 use Rattle.spans.specs.Timeline.{Venue}
-use Rattle.day.specs.Days.{Held}
+use Rattle.day.specs.Days.{Held, venueBy}
 use Rattle.day.specs.declared.Governed.{Governed}
 use Rattle.day.specs.declared.Governed.the-variants.{Nothing, By}
-use Rattle.walk.specs.Walking.{onDate, rest, Stands, Showing}
+use Rattle.walk.specs.Walking.{onDate, onward, rest, Stands, Showing, BegunAs}
 use Rattle.walk.specs.declared.Walk.{Walk}
 use Rattle.walk.specs.declared.Piece.{Piece}
 use Rattle.walk.specs.declared.Pulled.{Pulled}
@@ -75,3 +78,15 @@ pub record LeadsOn (s : List ℕ) (z : Zone) (v : Venue Held) (hi : ℕ) (w w′
 abbrev pub Leads : List ℕ → Zone → Venue Held → ℕ → Walk → Turned → List ℕ → Type 0
 Leads s z v hi w Turned·Done a = rest s z v hi w ≡ []
 Leads s z v hi w (On w′) a = LeadsOn s z v hi w w′ a
+
+-- what it sets: where the next turn begins, if it is later than this one and one is left; else both lent arrays are as they were
+abbrev pub nextAt : Zone → ℕ → Walk → ℕ
+nextAt z hi w = onward (venueBy z (λ x. none)) hi (w .began .0) (w .cursor .0) (w .date .0)
+
+abbrev pub goesOn : Zone → ℕ → Walk → Bool
+goesOn z hi w = not (leb (nextAt z hi w) (w .began .0) || eqb (w .turns) 0)
+
+abbrev pub LeadsAs : List ℕ → Zone → List ℕ → ℕ → Walk → List ℕ → List ℕ → Turned → List ℕ → List ℕ → Type 0
+LeadsAs s z rules hi w old kept Turned·Done a kept′ = (goesOn z hi w ≡ false) × (a ≡ old) × (kept′ ≡ kept)
+LeadsAs s z rules hi w old kept (On w′) a kept′ =
+    (goesOn z hi w ≡ true) × BegunAs s z rules (w .turns - 1) (nextAt z hi w) old kept w′ a kept′

@@ -4,9 +4,11 @@ use mathlib.Core.Path.{_≡_}
 use mathlib.Core.Bool.{Bool, true, false, cond}
 use mathlib.Core.List.{List, [], _∷_, _++_, map}
 use mathlib.Core.Option.{none}
+use mathlib.Core.Logic.{_↔_}
 use lib.Dec.{ltb}
 use lib.ListN.{length, getD, take, drop}
-use Rattle.zone.specs.Zone.{Zone, resolve}
+use Rattle.wire.specs.Fields.{wrote}
+use Rattle.zone.specs.Zone.{Zone, resolve, dateAt}
 use Rattle.zone.specs.Units.{dayNs, mostNs, nearestReading, readingAt}
 use Rattle.zone.specs.Answers.{uncertain}
 use Rattle.zone.specs.declared.Uncertainty.{Uncertainty}
@@ -16,7 +18,10 @@ use Rattle.venue.specs.Reading.{published, ListedRule}
 use Rattle.venue.specs.Reading as Reading
 use Rattle.spans.specs.Spans.{Span, clip, reach}
 use Rattle.spans.specs.Timeline.{Edge, Venue, midnight, raised, cut, walk}
+use Rattle.day.specs.Governing.{governingPlace}
 use Rattle.day.specs.Days.{Held, venueBy}
+use Rattle.day.specs.Meaning.{placeOf}
+use Rattle.day.specs.Keeping.{keptAfter}
 use Rattle.day.specs.declared.Governed.{Governed}
 use Rattle.day.specs.declared.Governed.the-variants.{Nothing, By}
 use Rattle.walk.specs.declared.Walk.{Walk}
@@ -84,12 +89,12 @@ rest s z v hi w = restWith v hi w (clip (w .cursor .0) hi (onDate s z (w .date .
 
 -- ---- where the walk stands
 
--- the first boundaries of an array are those of a date, and where it is calm none is in doubt
+-- the first boundaries of an array are those of a date, and it is calm exactly where none is in doubt
 abbrev pub Kept : List ℕ → Zone → ℕ → ℕ → Bool → Governed → List ℕ → Type 0
-Kept s z d k calm Nothing a = Unit {0}
+Kept s z d k calm Nothing a = calm ≡ true
 Kept s z d k calm (By p) a =
     ListedRule s p × (k ≤ length (ruleAt s p .points)) × (take (length (edgeInstants z (ruleAt s p) d)) a ≡ edgeInstants z (ruleAt s p) d)
-    × (calm ≡ true → Calm z (ruleAt s p) d)
+    × ((calm ≡ true) ↔ Calm z (ruleAt s p) d)
 
 pub record Stands (s : List ℕ) (z : Zone) (w : Walk) (a : List ℕ) : Type 0 where
   pub kept : Kept s z (w .date .0) (w .next) (w .calm) (w .governed) a
@@ -164,9 +169,24 @@ pub record Showing (a : List ℕ) (k n cursor hi r : ℕ) : Type 0 where
 -- ---- a turn begins
 
 pub record Begun (s : List ℕ) (z : Zone) (v : Venue Held) (turns cursor : ℕ) (w : Walk) (a : List ℕ) : Type 0 where
-  pub left : w .turns ≡ turns
   pub stands : Stands s z w a
   pub all : (hi : ℕ) → rest s z v hi w ≡ walk v hi (suc turns) cursor
+
+-- the array of boundaries after it: as it was where no rule governs the date
+abbrev pub edgesAfter : List ℕ → Zone → ℕ → Governed → List ℕ → List ℕ
+edgesAfter s z d Nothing a = a
+edgesAfter s z d (By p) a = wrote a 0 (edgeInstants z (ruleAt s p) d)
+
+-- what it sets, of the walk and of both lent arrays
+pub record BegunAs (s : List ℕ) (z : Zone) (rules : List ℕ) (turns cursor : ℕ) (old kept : List ℕ) (w : Walk) (a kept′ : List ℕ) : Type 0 where
+  pub left : w .turns ≡ turns
+  pub began : w .began .0 ≡ cursor
+  pub at : w .cursor .0 ≡ cursor
+  pub date : w .date .0 ≡ dateAt z cursor
+  pub place : placeOf (w .governed) ≡ governingPlace s rules (w .date .0)
+  pub next : w .next ≡ 0
+  pub edges : a ≡ edgesAfter s z (w .date .0) (w .governed) old
+  pub keeps : kept′ ≡ keptAfter s rules (w .date .0) kept
 
 -- ---- a step of the walk: a piece comes first, and the walk stands behind it, with as many turns to go
 

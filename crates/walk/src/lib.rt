@@ -1,6 +1,5 @@
 // The walk over the covered part of a window, one span after the other.
 
-mod keep;
 mod steady;
 mod step;
 mod turn;
@@ -8,7 +7,6 @@ mod turn;
 use calendar::Day;
 use day::Governed;
 use records::MOST_POINTS;
-use records::MOST_RULES;
 pub use step::behind;
 pub use step::here;
 pub use step::segment;
@@ -18,9 +16,6 @@ use zone::Instant;
 
 // One more boundary than a rule can have points.
 pub const MOST_BOUNDARIES: usize = MOST_POINTS as usize + 1;
-
-// Room for the places of all rules of a book, behind three numbers.
-pub const MOST_KEPT: usize = MOST_RULES + 3;
 
 // The most turns that a walk takes.
 pub const MOST_TURNS: u32 = 3_660;

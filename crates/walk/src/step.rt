@@ -13,10 +13,9 @@ ghost use Rattle.day.specs.Days.{venueBy};
 ghost use Rattle.day.specs.Meaning.{heldBy};
 ghost use Rattle.venue.specs.Reading.{ListedRules};
 ghost use Rattle.walk.specs.Walking.{onward as Walking·onward, behind as Walking·behind, Fits, heldIn, Showing};
-ghost use Rattle.walk.specs.Looking.{Holds, Looked, Shown, Leads};
-ghost use Rattle.walk.specs.Keeping.{Keeps};
+ghost use Rattle.walk.specs.Looking.{Holds, Looked, Shown, Leads, LeadsAs};
+ghost use Rattle.day.specs.Keeping.{Keeps};
 use crate::MOST_BOUNDARIES;
-use crate::MOST_KEPT;
 use crate::Piece;
 use crate::Pulled;
 use crate::Turned;
@@ -24,6 +23,7 @@ use crate::Walk;
 use crate::turn::begin;
 use calendar::Day;
 use day::Governed;
+use day::MOST_KEPT;
 use day::Segment;
 use day::midnight_after;
 use spans::earlier;
@@ -126,7 +126,9 @@ pub fn turn_on(
     ensures { λ r. ⌜ Leads (now (book .entry)) (zoneOf first (now (ats .entry)) (now (offsets .entry)))
         (venueBy (zoneOf first (now (ats .entry)) (now (offsets .entry)))
         (Governing·governing (map (ruleAt (now (book .entry))) (now (rules .entry))))) (hi .0) w r (now (edges .exit))
-        × Keeps (now (book .entry)) (now (rules .entry)) (now (kept .exit)) ⌝ }
+        × Keeps (now (book .entry)) (now (rules .entry)) (now (kept .exit))
+        × LeadsAs (now (book .entry)) (zoneOf first (now (ats .entry)) (now (offsets .entry))) (now (rules .entry)) (hi .0) w
+        (now (edges .entry)) (now (kept .entry)) r (now (edges .exit)) (now (kept .exit)) ⌝ }
 {
     let turns = w.turns;
     let began = w.began;

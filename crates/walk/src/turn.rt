@@ -1,6 +1,7 @@
 // A turn of the walk: the date that the cursor reads, the rule that governs it, and the date's boundaries.
 ghost use mathlib.Core.Path.{_≡_};
 ghost use mathlib.Core.Bool.{true};
+ghost use mathlib.Core.Logic.{_↔_};
 ghost use mathlib.Core.List.{map};
 ghost use Prim.Native.Nat.{_<_};
 ghost use lib.ListN.{length};
@@ -13,16 +14,16 @@ ghost use Rattle.records.specs.Records.{ruleAt};
 ghost use Rattle.venue.specs.Reading.{ListedRule, ListedRules};
 ghost use Rattle.day.specs.Governing.{governing as Governing·governing};
 ghost use Rattle.day.specs.Days.{venueBy};
-ghost use Rattle.walk.specs.Walking.{edgeInstants, isExact, Calm, Begun};
-ghost use Rattle.walk.specs.Keeping.{Keeps};
+ghost use Rattle.walk.specs.Walking.{edgeInstants, isExact, Calm, Begun, BegunAs};
+ghost use Rattle.day.specs.Keeping.{Keeps};
 ghost use Rattle.walk.specs.Shifting.{SteadyOn};
 use crate::MOST_BOUNDARIES;
-use crate::MOST_KEPT;
 use crate::Walk;
-use crate::keep::governing_near;
 use crate::steady::steady_boundaries;
 use calendar::Day;
 use day::Governed;
+use day::MOST_KEPT;
+use day::governing_near;
 use day::midnight_after;
 use spans::later;
 use venue::point_time;
@@ -62,7 +63,7 @@ fn boundaries(
     requires { ⌜ Valid first (now ats) (now offsets) × ListedRule (now book) rule × (base .points < length (now edges)) ⌝ }
     ensures { λ r. ⌜ (now (edges .exit) ≡ wrote (now (edges .entry)) 0
         (edgeInstants (zoneOf first (now (ats .entry)) (now (offsets .entry))) (ruleAt (now (book .entry)) rule) (d .0)))
-        × (r ≡ true → Calm (zoneOf first (now (ats .entry)) (now (offsets .entry))) (ruleAt (now (book .entry)) rule) (d .0)) ⌝ }
+        × ((r ≡ true) ↔ Calm (zoneOf first (now (ats .entry)) (now (offsets .entry))) (ruleAt (now (book .entry)) rule) (d .0)) ⌝ }
 {
     let place = rule as usize;
     let n = rule_points(book, place);
@@ -107,7 +108,7 @@ fn date_boundaries(
         × SteadyOn (zoneOf first (now ats) (now offsets)) steady (d .0) ⌝ }
     ensures { λ r. ⌜ (now (edges .exit) ≡ wrote (now (edges .entry)) 0
         (edgeInstants (zoneOf first (now (ats .entry)) (now (offsets .entry))) (ruleAt (now (book .entry)) rule) (d .0)))
-        × (r ≡ true → Calm (zoneOf first (now (ats .entry)) (now (offsets .entry))) (ruleAt (now (book .entry)) rule) (d .0)) ⌝ }
+        × ((r ≡ true) ↔ Calm (zoneOf first (now (ats .entry)) (now (offsets .entry))) (ruleAt (now (book .entry)) rule) (d .0)) ⌝ }
 {
     match steady {
         Steady::No => boundaries(book, first, ats, offsets, rule, d, edges),
@@ -145,7 +146,9 @@ pub fn begin(
     ensures { λ r. ⌜ Begun (now (book .entry)) (zoneOf first (now (ats .entry)) (now (offsets .entry)))
         (venueBy (zoneOf first (now (ats .entry)) (now (offsets .entry)))
         (Governing·governing (map (ruleAt (now (book .entry))) (now (rules .entry))))) turns (cursor .0) r (now (edges .exit))
-        × Keeps (now (book .entry)) (now (rules .entry)) (now (kept .exit)) ⌝ }
+        × Keeps (now (book .entry)) (now (rules .entry)) (now (kept .exit))
+        × BegunAs (now (book .entry)) (zoneOf first (now (ats .entry)) (now (offsets .entry))) (now (rules .entry)) turns (cursor .0)
+        (now (edges .entry)) (now (kept .entry)) r (now (edges .exit)) (now (kept .exit)) ⌝ }
 {
     let steady = steady_offset(first, ats, offsets, cursor, cursor);
     let date = date_of(first, ats, offsets, steady, cursor);

@@ -6,6 +6,7 @@ use mathlib.Core.Path.{sym, ap, _∙_, subst}
 use borrow.Author.Needs.{needs}
 use Rattle.day.proofs.ask.day_holding.Statement.{statement}
 use Rattle.day.proofs.ask.day_holding.Tie as tie
+use Rattle.day.specs.Governing.{governingPlace}
 
 returns : tie.Need-returns
 returns c =
@@ -14,7 +15,7 @@ returns c =
     let s = args .book .now in
     let t = args .t .0 in (
       ap (held s) (c .begun .ensures) ∙ begun-held s (found .result) t ∙ ap (λ (o : Option Held). begunHeld o t) (found .ensures .0) ∙ sym (look-day _ _ _ _),
-      subst (Placed s) (sym (c .begun .ensures)) (begun-placed s (found .result) t (found .ensures .1)),
+      subst (Placed s (governingPlace s (args .rules .now) (args .d .0))) (sym (c .begun .ensures)) (begun-placed s _ (found .result) t (found .ensures .1)),
     )
 
 pub day-holding-spec : {M : Type 1} → statement M

@@ -1,10 +1,12 @@
+use mathlib.Core.Option.{Option}
+use Prim.Native.Nat.{ℕ}
 use Rattle.day.proofs.Points.{day-none, day-some, stands-at}
-use Rattle.day.specs.Meaning.{ruled}
+use Rattle.day.specs.Meaning.{ruled, placeOf, Placed}
 use Rattle.day.specs.Governing.{governing}
 use Rattle.records.specs.Records.{ruleAt}
 use Rattle.zone.specs.Zone.{zoneOf}
 use mathlib.Core.List.{map}
-use mathlib.Core.Path.{sym, ap, _∙_}
+use mathlib.Core.Path.{sym, ap, _∙_, subst}
 use borrow.Author.Needs.{needs}
 use Rattle.day.proofs.ask.day_span_after.Statement.{statement}
 use Rattle.day.proofs.ask.day_span_after.Tie as tie
@@ -42,7 +44,8 @@ returns-2 c =
       day-some (zoneOf (args .first) (args .ats .now) (args .offsets .now)) (governing (map (ruleAt (args .book .now)) (args .rules .now)))
           (args .d .0) (args .t .0) _ (sym (at-governing .governing .ensures .0) ∙ ap (ruled (args .book .now)) (at-rule .rule .given .1)) _
           (at-span-after .span-after .ensures .0),
-      (at-span-after .span-after .ensures .1),
+      subst (λ (o : Option ℕ). Placed (args .book .now) o (at-span-after .span-after .result))
+          (ap placeOf (sym (at-rule .rule .given .1)) ∙ at-governing .governing .ensures .2) (at-span-after .span-after .ensures .1),
     )
 
 pub day-span-after-spec : {M : Type 1} → statement M

@@ -1,8 +1,8 @@
 use Rattle.zone.proofs.Domain.{date-small}
-use Rattle.day.proofs.Points.{point-before, point-behind, by-first, by-second, by-third}
+use Rattle.day.proofs.Points.{point-before, point-behind, by-first, by-second, by-third, on-first, on-second, on-third}
 use Rattle.day.specs.Meaning.{held, Placed}
-use Rattle.day.specs.Days.{Held, venueBy}
-use Rattle.day.specs.Governing.{governing}
+use Rattle.day.specs.Days.{Held, venueBy, holdingDate}
+use Rattle.day.specs.Governing.{governing, governingPlace}
 use Rattle.spans.specs.Timeline.{Venue, spans}
 use Rattle.spans.specs.Spans.{look}
 use Rattle.records.specs.Records.{ruleAt}
@@ -10,12 +10,13 @@ use Rattle.zone.specs.Zone.{zoneOf}
 use mathlib.Core.List.{List, map}
 use mathlib.Core.Option.{Option}
 use Prim.Native.Nat.{ℕ, _-_}
-use mathlib.Core.Path.{_≡_, sym, ap, _∙_, subst}
+use mathlib.Core.Path.{_≡_, sym, ap, _∙_, subst, refl}
 use native.Mathlib.Numerals.{add-one}
 use native.Mathlib.Omega.{arith}
 use borrow.Author.Needs.{needs}
 use Rattle.day.proofs.ask.point.Statement.{statement}
 use Rattle.day.proofs.ask.point.Tie as tie
+use Rattle.day.specs.declared.Spanned.{Spanned}
 
 -- ---- the venue, and what is found on a date
 
@@ -42,6 +43,18 @@ today2 c = today (c .before .before .before)
 earlier : (c : tie.After-day-holding)
     → let s = start (today c) in held (bookIn s) (c .day-holding .result) ≡ foundOn s (today c .day-at .result .0 - 1)
 earlier c = c .day-holding .ensures .0 ∙ ap (foundOn (start (today c))) (c .before .before .day-before .ensures)
+
+-- the date before today
+today-before : (c : tie.After-day-holding) → c .before .before .day-before .result .0 ≡ today c .day-at .result .0 - 1
+today-before c = c .before .before .day-before .ensures
+
+-- what was found on a date, where that is the date that holds the instant
+placed-at : (c : tie.Start) {r r′ : Spanned} → r ≡ r′ → {d e : ℕ} → d ≡ e → holdingDate (venueIn c) (c .args .t .0) ≡ e
+    → Placed (bookIn c) (governingPlace (bookIn c) (c .args .rules .now) d) r
+    → Placed (bookIn c) (governingPlace (bookIn c) (c .args .rules .now) (holdingDate (venueIn c) (c .args .t .0))) r′
+placed-at c {r} {r′} i {d} j k h =
+    subst (λ (n : ℕ). Placed (bookIn c) (governingPlace (bookIn c) (c .args .rules .now) n) r′) (j ∙ sym k)
+    (subst (Placed (bookIn c) (governingPlace (bookIn c) (c .args .rules .now) d)) i h)
 
 -- ---- the needs
 
@@ -81,7 +94,8 @@ returns-3 c =
     let s = start d in (
       by-first (venueIn s) _ (s .args .t .0) (d .before .before .before .before .if1 .left) (d .before .if2 .left) _ (d .day-at .ensures) _
           (ap (held (bookIn s)) (sym (at-g .g .given .1)) ∙ earlier e),
-      subst (Placed (bookIn s)) (at-g .g .given .1) (e .day-holding .ensures .1),
+      placed-at s (at-g .g .given .1) (today-before e) (on-first (venueIn s) _ (s .args .t .0) (d .before .before .before .before .if1 .left) (d .before .if2 .left) _ (d .day-at .ensures)
+          (ap (held (bookIn s)) (sym (at-g .g .given .1)) ∙ earlier e)) (e .day-holding .ensures .1),
     )
 
 returns-4 : tie.Need-returns-4
@@ -94,7 +108,10 @@ returns-4 c =
       by-second (venueIn s) _ (s .args .t .0) (d .before .before .before .before .if1 .left) (d .before .if2 .left) _ (d .day-at .ensures)
           (ap (held (bookIn s)) (sym (f .before .enum-told .given .1)) ∙ earlier e) _
           (ap (held (bookIn s)) (sym (at-g2 .g2 .given .1)) ∙ f .day-holding2 .ensures .0),
-      subst (Placed (bookIn s)) (at-g2 .g2 .given .1) (f .day-holding2 .ensures .1),
+      placed-at s (at-g2 .g2 .given .1) refl
+          (on-second (venueIn s) _ (s .args .t .0) (d .before .before .before .before .if1 .left) (d .before .if2 .left) _ (d .day-at .ensures)
+          (ap (held (bookIn s)) (sym (f .before .enum-told .given .1)) ∙ earlier e)
+          (ap (held (bookIn s)) (sym (at-g2 .g2 .given .1)) ∙ f .day-holding2 .ensures .0)) (f .day-holding2 .ensures .1),
     )
 
 returns-5 : tie.Need-returns-5
@@ -107,7 +124,10 @@ returns-5 c =
           (ap (held (bookIn s)) (sym (f .before .enum-told .given .1)) ∙ earlier e)
           (ap (held (bookIn s)) (sym (c .before .enum-told2 .given .1)) ∙ f .day-holding2 .ensures .0) _
           (c .day-holding3 .ensures .0 ∙ ap (foundOn s) (add-one _)),
-      c .day-holding3 .ensures .1,
+      placed-at s {r = c .day-holding3 .result} refl (add-one _)
+          (on-third (venueIn s) _ (s .args .t .0) (d .before .before .before .before .if1 .left) (d .before .if2 .left) _ (d .day-at .ensures)
+          (ap (held (bookIn s)) (sym (f .before .enum-told .given .1)) ∙ earlier e)
+          (ap (held (bookIn s)) (sym (c .before .enum-told2 .given .1)) ∙ f .day-holding2 .ensures .0)) (c .day-holding3 .ensures .1),
     )
 
 pub point-spec : {M : Type 1} → statement M

@@ -217,7 +217,7 @@ returns c =
     let held = tested-by (stored (ready l)) t _ (first-read l _) (second-read l _) (at-ends-after .ends-after .ensures) (c .before .if1 .taken) in (
       scan-answer (zoneIn p) (ruleIn p) (dayIn p) _ t (all (ready l)) _ (omega (arith, within2 l)) (l .before .loop2 .inv .1) held
           (first-read l _) (second-read l _) (c .point-phase .ensures .0),
-      start p .pre .1,
+      (start p .pre .1, refl),
     )
 
 add-k : At tie.Need-add-k

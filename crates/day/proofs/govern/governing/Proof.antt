@@ -43,7 +43,7 @@ returns : tie.Need-returns Inv-loop μ-loop
 returns c =
     let at-loop-test = c in
     let at-loop = at-loop-test .before in
-    (chosen (at-loop .loop .inv) (at-loop-test .loop-test .left), at-loop .loop .inv .stands)
+    chosen (at-loop .loop .inv) (at-loop-test .loop-test .left)
 
 pub governing-spec : {M : Type 1} → statement M
 governing-spec =

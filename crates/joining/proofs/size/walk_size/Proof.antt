@@ -5,8 +5,8 @@ use Rattle.joining.specs.Walked.{phaseForms}
 use Rattle.joining.specs.Joining.{phases}
 use Rattle.tell.specs.Shown.{Shown}
 use Rattle.walk.proofs.Looking.{stands-held}
-use Rattle.walk.proofs.Keeping.{keeps-blank}
-use Rattle.walk.specs.Keeping.{Keeps}
+use Rattle.day.proofs.Keeping.{keeps-blank}
+use Rattle.day.specs.Keeping.{Keeps}
 use Rattle.walk.specs.Walking.{Stands}
 use Rattle.venue.proofs.Laws.{good-rule}
 use Rattle.spans.specs.Spans.{Span, joined}

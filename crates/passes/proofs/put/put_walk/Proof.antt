@@ -2,10 +2,10 @@ use Rattle.passes.proofs.Passes.{Writing}
 use Rattle.passes.proofs.Steps.{bytesLeft, Taken, taken, turn-written, its-count, its-room, its-length, its-record, written, written-on, begun-writing, walk-put}
 use Rattle.joining.proofs.Steps.{z, left, Coming, fewer, come, shown, gone, turned, turn-fewer, found-few, stands-on, fewer-on}
 use Rattle.answer.specs.declared.Phase.{Phase}
-use Rattle.walk.proofs.Keeping.{keeps-blank}
+use Rattle.day.proofs.Keeping.{keeps-blank}
 use Rattle.walk.proofs.Looking.{stands-held}
 use Rattle.walk.specs.Walking.{Stands}
-use Rattle.walk.specs.Keeping.{Keeps}
+use Rattle.day.specs.Keeping.{Keeps}
 use Rattle.venue.proofs.Laws.{good-rule}
 use lib.ListN.{length}
 use mathlib.Core.Path.{ap, _∙_}

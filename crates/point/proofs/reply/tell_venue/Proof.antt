@@ -32,8 +32,8 @@ tell-known-requires c κs =
     let at-g = c .before .before in
     let at-point = at-g .before .before in
     let pre = start at-point .pre in
-    let placed = subst (Placed (start at-point .args .book .now)) (at-g .g .given .1) (at-point .point .ensures .1) in
-    (pre .zone, pre .events-listed, pre .few, placed)
+    let placed = subst (Placed (start at-point .args .book .now) _) (at-g .g .given .1) (at-point .point .ensures .1) in
+    (pre .zone, pre .events-listed, pre .few, placed .0)
 
 returns : tie.Need-returns
 returns c =

@@ -1,8 +1,8 @@
 use Rattle.tally.proofs.Passing.{stands-on, pieces, ComesFirst, Walked, come, shown, walked-none, walked-coming, walked-next, walked-less, turned, turn-walked, turn-less, walk-counted}
 use Rattle.venue.proofs.Laws.{good-rule}
 use Rattle.walk.specs.Walking.{Stands}
-use Rattle.walk.specs.Keeping.{Keeps}
-use Rattle.walk.proofs.Keeping.{keeps-blank}
+use Rattle.day.specs.Keeping.{Keeps}
+use Rattle.day.proofs.Keeping.{keeps-blank}
 use Rattle.walk.proofs.Looking.{stands-held}
 use Rattle.zone.specs.Zone.{zoneOf}
 use lib.ListN.{length}

@@ -5,8 +5,12 @@ use Rattle.records.specs.Records.{ruleAt}
 use Rattle.zone.specs.Zone.{zoneOf}
 use Rattle.spans.specs.Timeline.{Venue}
 use mathlib.Core.List.{map}
-use Prim.Native.Nat.{_<_}
-use mathlib.Core.Path.{sym, _∙_}
+use Prim.Native.Nat.{ℕ, _<_}
+use mathlib.Core.Path.{_≡_, refl, sym, ap, _∙_}
+use mathlib.Core.Bool.{not, _||_}
+use lib.Dec.{leb, eqb}
+use Rattle.walk.proofs.Once.{begun-at}
+use Rattle.walk.specs.Looking.{goesOn}
 use native.Mathlib.Omega.{arith}
 use Rattle.walk.proofs.step.turn_on.Statement.{statement}
 use Rattle.walk.proofs.step.turn_on.Tie as tie
@@ -25,14 +29,24 @@ further c =
     let at-start = at-onward .before .before .before .before .before .before .before .before in
     more (venueIn at-start) _ (at-start .args .w .turns) _ _ _ _ (at-onward .onward .ensures) (c .if1 .left)
 
+-- whether it goes on, as the code asks
+tested : (c : tie.After-onward) → let args = c .before .before .before .before .before .before .before .before .args in
+    goesOn (zoneOf (args .first) (args .ats .now) (args .offsets .now)) (args .hi .0) (args .w) ≡ not (leb (c .onward .result .0) (args .w .began .0) || eqb (args .w .turns) 0)
+tested c =
+    let w = c .before .before .before .before .before .before .before .before .args .w in
+    ap (λ (n : ℕ). not (leb n (w .began .0) || eqb (w .turns) 0)) (sym (c .onward .ensures))
+
 onward-requires : tie.Need-onward-requires
 onward-requires c κs = c .before .before .before .before .before .before .before .pre .0
 
 returns : tie.Need-returns
 returns c =
     let at-onward = c .before .before .before in
-    let at-start = at-onward .before .before .before .before .before .before .before .before in
-    (leads _ _ _ _ _ (at-start .pre .3) ∙ ends (venueIn at-start) _ (at-start .args .w .turns) _ _ _ _ (at-onward .onward .ensures) (c .if1 .taken), at-start .pre .2)
+    let at-start = at-onward .before .before .before .before .before .before .before .before in (
+      leads _ _ _ _ _ (at-start .pre .3) ∙ ends (venueIn at-start) _ (at-start .args .w .turns) _ _ _ _ (at-onward .onward .ensures) (c .if1 .taken),
+      at-start .pre .2,
+      (tested at-onward ∙ ap not (c .if1 .taken), refl, refl),
+    )
 
 sub-begin : tie.Need-sub-begin
 sub-begin c = omega (arith, further (c .before .before))
@@ -51,9 +65,10 @@ returns-2 c =
       record {
         same = leads _ _ _ _ _ (at-start .pre .3) ∙ goes (venueIn at-start) _ (at-start .args .w .turns) _ _ _ _ (at-onward .onward .ensures) (at-if1 .if1 .left) ∙ sym (begun .all _);
         stands = begun .stands;
-        fewer = omega (arith, further at-if1, begun .left);
+        fewer = omega (arith, further at-if1, c .begin .ensures .2 .left);
       },
       c .begin .ensures .1,
+      (tested at-onward ∙ ap not (at-if1 .if1 .left), begun-at (at-onward .onward .ensures) (c .begin .ensures .2)),
     )
 
 pub turn-on-spec : {M : Type 1} → statement M

@@ -7,7 +7,9 @@ use Rattle.records.specs.Records.{ruleAt}
 use Rattle.zone.specs.Zone.{zoneOf}
 use mathlib.Core.List.{map}
 use native.Mathlib.Omega.{arith}
-use Rattle.day.specs.Meaning.{ruled}
+use Rattle.day.specs.Meaning.{ruled, placeOf}
+use Rattle.day.specs.declared.Governed.{Governed}
+use Rattle.walk.specs.Walking.{edgesAfter}
 use mathlib.Core.Bool.{true}
 use mathlib.Core.Path.{refl, sym, ap, _∙_}
 use borrow.Author.Needs.{needs}
@@ -71,8 +73,18 @@ returns c =
     let zoneOf-is = zoneOf (args .first) (args .ats .now) (args .offsets .now) in (
       begun (args .book .now) zoneOf-is (governing (map (ruleAt (args .book .now)) (args .rules .now))) (args .turns) (args .cursor) _ _ true _
           (at-date-of .date-of .ensures) (at-governing-near .governing-near .ensures .0)
-          (kept-nothing (args .book .now) zoneOf-is _ true _ (at-enum-told .enum-told .given .1)),
-      (at-governing-near .governing-near .ensures .2),
+          (kept-nothing (args .book .now) zoneOf-is _ _ (at-enum-told .enum-told .given .1)),
+      at-governing-near .governing-near .ensures .3,
+      record {
+        left = refl;
+        began = refl;
+        at = refl;
+        date = at-date-of .date-of .ensures;
+        place = at-governing-near .governing-near .ensures .2;
+        next = refl;
+        edges = sym (ap (λ (g : Governed). edgesAfter (args .book .now) zoneOf-is (at-date-of .date-of .result .0) g (args .edges .now)) (at-enum-told .enum-told .given .1));
+        keeps = at-governing-near .governing-near .ensures .4;
+      },
     )
 
 returns-2 : tie.Need-returns-2
@@ -90,7 +102,17 @@ returns-2 c =
           (args .book .now) zoneOf-is (at-date-of .date-of .result .0) _ _ _ refl
           (stands-at (args .book .now) (at-governing-near .governing-near .ensures .1) (at-governed .governed .given .1))
           (at-date-boundaries .date-boundaries .ensures .0) (at-date-boundaries .date-boundaries .ensures .1)),
-      (at-governing-near .governing-near .ensures .2),
+      at-governing-near .governing-near .ensures .3,
+      record {
+        left = refl;
+        began = refl;
+        at = refl;
+        date = at-date-of .date-of .ensures;
+        place = sym (ap placeOf (at-governed .governed .given .1)) ∙ at-governing-near .governing-near .ensures .2;
+        next = refl;
+        edges = at-date-boundaries .date-boundaries .ensures .0;
+        keeps = at-governing-near .governing-near .ensures .4;
+      },
     )
 
 pub begin-spec : {M : Type 1} → statement M

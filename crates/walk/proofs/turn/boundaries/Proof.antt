@@ -1,4 +1,4 @@
-use Rattle.walk.proofs.Filling.{Filling, filling-none, filling-next, filled, ClearTo, clear-next, clear-all}
+use Rattle.walk.proofs.Filling.{Filling, filling-none, filling-next, filled, ClearTo, clear-none, clear-next, clear-all}
 use Rattle.zone.specs.Zone.{zoneOf}
 use Rattle.zone.specs.Answers.{boundaryAt}
 use Rattle.zone.specs.declared.Boundary.{Boundary}
@@ -28,8 +28,7 @@ loop-holds c =
     let at-start = c .before .before .before .before .before in
     let args = at-start .args in (
       filling-none (zoneOf (args .first) (args .ats .now) (args .offsets .now)) (ruleAt (args .book .now) (args .rule)) (args .d .0) _,
-      λ q j h. absurd
-          (omega arith),
+      clear-none (zoneOf (args .first) (args .ats .now) (args .offsets .now)) (ruleAt (args .book .now) (args .rule)) (args .d .0),
     )
 
 point-time-requires : tie.Need-point-time-requires Inv-loop μ-loop
@@ -159,7 +158,7 @@ returns c =
     let n = at-rule-points .rule-points .ensures in (
       filled zoneOf-is ruleAt-is (args .d .0) _ _ _ _ _ (at-loop .loop .inv .0) (omega (arith, n, (at-start .pre .2))) (omega (arith, n)) _ _ (n .0)
           (at-loop-test .loop-test .left) (at-later2 .later2 .ensures) (ap (λ (b : Boundary). b .at .0) (at-midnight-after .midnight-after .ensures)),
-      clear-all zoneOf-is ruleAt-is (args .d .0) _ _ _ (at-loop .loop .inv .1) (omega (arith, n .0, (at-loop-test .loop-test .left))) _
+      clear-all zoneOf-is ruleAt-is (args .d .0) _ _ _ (at-loop .loop .inv .1) (omega (arith, n .0, (at-loop-test .loop-test .left), (at-loop .loop .inv .0 .most))) _
           (ap (λ (b : Boundary). b .uncertainty) (at-midnight-after .midnight-after .ensures)) (at-is-exact2 .is-exact2 .ensures),
     )
 

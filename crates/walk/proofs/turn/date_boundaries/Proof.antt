@@ -1,5 +1,5 @@
 use native.Mathlib.Omega.{arith}
-use mathlib.Core.Path.{sym, subst}
+use mathlib.Core.Path.{refl, sym, subst}
 use Rattle.venue.proofs.Laws.{good-rule}
 use Rattle.records.specs.Records.{ruleAt}
 use Rattle.zone.specs.Zone.{zoneOf}
@@ -35,7 +35,7 @@ returns-2 c =
     let at-start = at-steady .before .before .before .before .before .before in
     let s = steadily at-steady .1 in (
       at-steady-boundaries .steady-boundaries .ensures _ _ (subst (Shifts _ _) (sym (at-steady-midnight .steady-midnight .ensures)) s),
-      λ e. shifts-calm s (ruleAt (at-start .args .book .now) (at-start .args .rule)) (good-rule _ _ (at-start .pre .1) .each),
+      (λ e. shifts-calm s (ruleAt (at-start .args .book .now) (at-start .args .rule)) (good-rule _ _ (at-start .pre .1) .each), λ c. refl),
     )
 
 pub date-boundaries-spec : {M : Type 1} → statement M

@@ -1,12 +1,16 @@
 use lib.ListN.{length-set}
 use native.Mathlib.Omega.{arith}
-use mathlib.Core.Path.{refl}
-use Rattle.walk.proofs.Keeping.{kept-for}
-use Prim.Native.Nat.{_+_, _-_}
+use mathlib.Core.Path.{ap, _∙_}
+use Rattle.day.proofs.Keeping.{stored}
+use Rattle.day.specs.Narrowing.{nearOf}
+use Rattle.day.specs.Keeping.{stretch}
+use Rattle.wire.specs.Fields.{wrote}
+use mathlib.Core.List.{_∷_}
+use Prim.Native.Nat.{ℕ, _+_, _-_}
 use Rattle.day.proofs.Narrowing.{near-few}
 use borrow.Author.Needs.{needs}
-use Rattle.walk.proofs.keep.keep.Statement.{statement}
-use Rattle.walk.proofs.keep.keep.Tie as tie
+use Rattle.day.proofs.keep.keep.Statement.{statement}
+use Rattle.day.proofs.keep.keep.Tie as tie
 
 add-behind : tie.Need-add-behind
 add-behind c = search needs
@@ -40,7 +44,7 @@ cast-kept c =
     let at-near = c .before .before in
     let at-start = at-near .before .before .before .before .before .before in
     let args = at-start .args in
-    omega (arith, near-few (args .book .now) (args .d .0) ((args .d .0) + 64 - 1) (args .rules .now), (at-near .near .ensures .0), (at-start .pre .1))
+    omega (arith, near-few (args .book .now) (args .d .0) ((args .d .0) + stretch - 1) (args .rules .now), (at-near .near .ensures .0), (at-start .pre .1))
 
 slice-write-kept-3 : tie.Need-slice-write-kept-3
 slice-write-kept-3 c =
@@ -55,8 +59,12 @@ returns : tie.Need-returns
 returns c =
     let at-near = c .before .before in
     let at-start = at-near .before .before .before .before .before .before in
-    kept-for (at-start .args .kept .now) _ (at-start .pre .0) (omega (arith, (at-start .pre .1), (at-start .pre .2))) refl (at-near .near .ensures .0)
-    (at-near .near .ensures .1)
+    let args = at-start .args in
+    let few = near-few (args .book .now) (args .d .0) (args .d .0 + stretch - 1) (args .rules .now) in
+    let is = stored (args .kept .now) _ (nearOf (args .book .now) (args .rules .now) (args .d .0) (args .d .0 + stretch - 1)) (args .d .0) (args .d .0 + stretch) _
+    (omega (arith, few, at-start .pre .1, at-start .pre .2)) (at-near .near .ensures .1) in
+    is ∙ ap (λ (n : ℕ). wrote (args .kept .now) 0 (args .d .0 ∷ (args .d .0 + stretch) ∷ n ∷ nearOf (args .book .now) (args .rules .now) (args .d .0) (args .d .0 + stretch - 1)))
+    (at-near .near .ensures .0)
 
 pub keep-spec : {M : Type 1} → statement M
 keep-spec =
