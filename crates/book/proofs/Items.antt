@@ -9,6 +9,7 @@ use native.Mathlib.Omega.{arith}
 use borrow.Author.Tests.{le-ltb, leb-false}
 use lib.ListN.{length}
 use lib.Dec.{ltb, leb, leb·suc-suc}
+use Rattle.wire.proofs.Signs.{and-no}
 use Rattle.zone.specs.Units.{dayNs}
 use Rattle.records.specs.Layout.{number, count, time, step, ruleKind, eventKind, coverageKind, transitionKind, isRule, isDated}
 use Rattle.records.specs.Records.{recordAt, pointsAt, timesAt}
@@ -124,10 +125,6 @@ module _ (s : List ℕ) (at k n : ℕ) (f : Framed s at) (e : k ≡ kindAt s at)
       go (two i) = ap (badFrom s k at) (none-of (rw i)) ∙ sym (ap badItems (is-two s at k f e i))
       go (three i) = ap₂ (λ (x y : ℕ). badFrom s x at y) i (count-of k refl i) ∙ any-points s at (number (count ruleKind) s at) ∙ sym (ap badItems (is-three s at k f e i))
       go (four i) = ap₂ (λ (x y : ℕ). badFrom s x at y) i (count-four i) ∙ any-times s at (number (count eventKind) s at) ∙ sym (ap badItems (is-four s at k f e i))
-
-  and-no : (a : Bool) → (a && false) ≡ false
-  and-no true = refl
-  and-no false = refl
 
   and-yes : (a : Bool) → (a && true) ≡ a
   and-yes true = refl

@@ -18,7 +18,7 @@ use Rattle.rows.specs.declared.Segment.{Segment}
 use Rattle.rows.proofs.Turns.{mark-holds}
 use Rattle.rows.proofs.Places.{holds as segment-holds, segments-end, mark-end, rows-end, segments-mark, mark-mark, rows-mark}
 use Rattle.rows.proofs.Steps.{Ends, Anew, Sees, Happens, Going, segment-going, event-going}
-use Rattle.answer.specs.Forms.{eventSize}
+use Rattle.answer.specs.Forms.{eventSize, markSize}
 use Rattle.classes.specs.Classes.{classOf, classAt}
 use Rattle.classes.specs.Reading.{marks, classIn, firstOf, Only, Another}
 use Rattle.classes.specs.declared.Class.{Class}
@@ -109,7 +109,7 @@ module _ (allowed : Bool) (s : List ℕ) (start t : ℕ) where
           rows = ap (rowsAt s) (next-at (e .none) (mark-end s at (e .end))) ∙ rows-end s at (e .end);
         }
 
-    pub along-mark : Anew allowed s at least n → Another allowed s start t shown (at + 6)
+    pub along-mark : Anew allowed s at least n → Another allowed s start t shown (at + markSize)
     along-mark m =
         let h = mark-holds s at (m .mark) in
         let i : at < length s = omega (arith, h .0) in
@@ -139,11 +139,11 @@ module _ (allowed : Bool) (s : List ℕ) (start t : ℕ) where
           after = rw e (omega (arith, a .after, h .after));
         }
 
-    pub along-event : Happens allowed s at least n → Along allowed s start t (at + eventSize) least (n - 1) shown
-    along-event o =
-        record {
+    pub along-event : Happens allowed s at least n → {behind : ℕ} → behind ≡ at + eventSize → Along allowed s start t behind least (n - 1) shown
+    along-event o e =
+        rw e (record {
           going = event-going (a .going) o;
           same = rw (o .same) at (a .same);
           next = rw (o .same) at (a .next);
           after = omega (arith, a .after);
-        }
+        })

@@ -8,7 +8,6 @@ ghost use Rattle.classes.specs.Classes.{classOf, classNumber, classReply
 ghost use Rattle.classes.specs.Reading.{classIn, firstOf, Classes};
 use crate::Class;
 use crate::ClassReply;
-use answer::EVENT_SIZE;
 use answer::MARK_SIZE;
 use query::Asked;
 use query::OUTSIDE;
@@ -18,6 +17,7 @@ use rows::BAD_ROW;
 use rows::Segment;
 use rows::Shows;
 use rows::Stands;
+use rows::event_at;
 use rows::segment_at;
 use rows::stands_at;
 use wire::place;
@@ -88,7 +88,8 @@ pub(crate) fn row_class(rows: &[u8], start: usize, marks: bool, t: u64) -> Class
                 return Classed::Last(shown);
             }
             Stands::Mark => {
-                return Classed::More(shown, at + MARK_SIZE);
+                let behind = at + MARK_SIZE;
+                return Classed::More(shown, behind);
             }
             Stands::Segment => {
                 let g = segment_at(rows, at);
@@ -99,7 +100,8 @@ pub(crate) fn row_class(rows: &[u8], start: usize, marks: bool, t: u64) -> Class
                 waiting = g.events;
             }
             Stands::Event => {
-                at += EVENT_SIZE;
+                let e = event_at(rows, at);
+                at = e.behind;
                 waiting -= 1;
             }
         }

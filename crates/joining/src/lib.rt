@@ -1,4 +1,4 @@
-// Joining, as both passes over a walk do it: which spans join, what joined spans become, and how many bytes a joined walk takes.
+// Joining, document 01's phase rule 5: which spans join, and what joined spans become.
 ghost use mathlib.Core.Path.{_≡_};
 ghost use Prim.Native.Nat.{_+_, _^_, _<_};
 ghost use mathlib.Core.Bool.{cond};
@@ -7,10 +7,6 @@ ghost use Rattle.joining.specs.declared.Last.the-variants.{Nothing, Show
 use answer::Phase;
 use zone::Instant;
 use zone::widest;
-
-mod size;
-
-pub use size::walk_size;
 
 // What the last span showed: where it ended, its phase and its evidence.
 pub enum Last {

@@ -14,7 +14,6 @@ use crate::text::put_byte;
 use crate::text::put_instant;
 use crate::text::put_number;
 use crate::text::put_word;
-use answer::EVENT_SIZE;
 use rows::Segment;
 use rows::Shows;
 use rows::end_of;
@@ -76,7 +75,7 @@ fn put_events(answer: &[u8], first: usize, n: u32, out: &mut [u8], at: usize) ->
         let e = event_at(answer, from);
         let when = e.at;
         place = put_event(out, place, when, e.code);
-        from += EVENT_SIZE;
+        from = e.behind;
         left -= 1;
     }
     place

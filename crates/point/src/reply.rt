@@ -84,8 +84,8 @@ fn tell_known(
     }
     let whole = widest(before, behind);
     let at = put_phase(out, 0, phase_of(book, g, whole, from, to, count as u32));
-    let n = put_events(book, first, ats, offsets, events, from, to, out, at);
-    answered(n)
+    let trail = put_events(book, first, ats, offsets, events, from, to, out, at);
+    answered(trail.behind)
 }
 
 // Of an opened book.

@@ -8,18 +8,15 @@ use borrow.Author.Tests.{ltb-true, ltb-false, eqb-true, eqb-false}
 use lib.Dec.{ltb, eqb}
 use lib.ListN.{length}
 use Rattle.wire.proofs.Signs.{and-true}
-use Rattle.answer.specs.Forms.{eventSize}
+use Rattle.records.proofs.Tests.{or-false}
+use Rattle.answer.specs.Forms.{eventSize, markSize}
 use Rattle.rows.specs.Rows.{fromAt, enough, goodPhase, goodGap, goodSegment, goodEvent, goodMark, goodEvents, goodFrom, goodAt}
 use Rattle.rows.specs.Telling.{segmentOf, goodOn, standsAt}
 use Rattle.rows.specs.declared.Segment.{Segment}
 use Rattle.rows.specs.declared.Stands.{Stands}
 use Rattle.rows.specs.declared.Stands.the-variants as Stands
-use Rattle.rows.proofs.Turns.{untrue, mark-holds, event-holds, at-end, phase-early, gap-early, other, mark-on}
+use Rattle.rows.proofs.Turns.{mark-holds, event-holds, at-end, phase-early, gap-early, other, mark-on}
 use Rattle.rows.proofs.Places.{holds, good-look, good-left}
-
-or-false : (a b : Bool) → (a || b) ≡ false → (a ≡ false) × (b ≡ false)
-or-false true b e = absurd (untrue (sym e))
-or-false false b e = (refl, e)
 
 module _ (marks : Bool) (s : List ℕ) (at least n : ℕ) where
   -- the bytes end
@@ -33,8 +30,8 @@ module _ (marks : Bool) (s : List ℕ) (at least n : ℕ) where
     pub none : n ≡ 0
     pub allowed : marks ≡ true
     pub mark : goodMark s at ≡ true
-    pub inside : at + 6 ≤ length s
-    pub on : goodOn marks s at least n ≡ goodOn marks s (at + 6) 0 0
+    pub inside : at + markSize ≤ length s
+    pub on : goodOn marks s at least n ≡ goodOn marks s (at + markSize) 0 0
 
   -- a segment: the row goes on behind it
   pub record Sees : Type 0 where
@@ -131,8 +128,8 @@ module _ (marks : Bool) (s : List ℕ) (at least n : ℕ) where
               allowed = x .0;
               mark = x .1;
               inside = f .0;
-              on = looked z ∙ mark-on marks s at least (omega (arith, f .0)) (p .0) (p .1) o (length s) ∙ good-left s marks at least (at + 6) 0 (omega arith)
-                  ∙ sym (fresh (at + 6));
+              on = looked z ∙ mark-on marks s at least (omega (arith, f .0)) (p .0) (p .1) o (length s) ∙ good-left s marks at least (at + markSize) 0 (omega arith)
+                  ∙ sym (fresh (at + markSize));
             }
         go false b false false e false i j k l m o =
             let p = or-false (goodPhase s at) (goodGap s at) l in

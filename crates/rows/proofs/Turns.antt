@@ -10,7 +10,7 @@ use lib.ListN.{length}
 use Rattle.wire.proofs.Signs.{and-true}
 use Rattle.records.specs.Layout.{number, size, kind}
 use Rattle.answer.specs.Forms
-use Rattle.answer.specs.Forms.{phaseKind, phaseLength, gapKind, gapLength, eventKind, eventLength, markKind, markLength, phaseSize, gapSize, eventSize}
+use Rattle.answer.specs.Forms.{phaseKind, phaseLength, gapKind, gapLength, eventKind, eventLength, markKind, markLength, phaseSize, gapSize, eventSize, markSize}
 use Rattle.rows.specs.Rows.{fromAt, toAt, countAt, behindPhase, behindGap, behindMark, framed, tagged, notEmpty}
 use Rattle.rows.specs.Rows.{goodPhase, goodGap, goodEvent, goodMark, goodEvents, goodFrom}
 
@@ -57,7 +57,7 @@ module _ (s : List ℕ) (at : ℕ) where
       let f = framed-holds gapKind gapLength (b .0) in
       record { whole = omega (arith, f .0); kind = f .1; forward = ltb-true (fromAt s at) (toAt s at) (a .1) }
 
-  pub mark-holds : goodMark s at ≡ true → (at + 6 ≤ length s) × (number kind s at ≡ markKind)
+  pub mark-holds : goodMark s at ≡ true → (at + markSize ≤ length s) × (number kind s at ≡ markKind)
   mark-holds e = let f = framed-holds markKind markLength e in (omega (arith, f .0), f .1)
 
   pub event-holds : goodEvent s at ≡ true → at + eventSize ≤ length s

@@ -37,7 +37,9 @@ pub struct Segment {
     pub behind: usize,
 }
 
+// An event, and the place behind it.
 pub struct Event {
     pub at: Placed,
     pub code: u16,
+    pub behind: usize,
 }

@@ -1,5 +1,5 @@
 // What good records say.
-ghost use Prim.Native.Nat.{_^_, _<_};
+ghost use Prim.Native.Nat.{_+_, _^_, _<_};
 ghost use mathlib.Core.Path.{_≡_};
 ghost use mathlib.Core.Bool.{true};
 ghost use Rattle.wire.specs.Fields.{Inside};
@@ -54,12 +54,13 @@ pub fn end_of(g: Segment) -> usize
 // The event that stands at a place.
 pub fn event_at(bytes: &[u8], at: usize) -> Event
     requires { ⌜ Inside at eventSize (now bytes) ⌝ }
-    ensures { λ r. ⌜ (r .at .0 ≡ eventOf (now (bytes .entry)) at .at) × (r .code ≡ eventOf (now (bytes .entry)) at .code) ⌝ }
+    ensures { λ r. ⌜ (r .at .0 ≡ eventOf (now (bytes .entry)) at .at) × (r .code ≡ eventOf (now (bytes .entry)) at .code) × (r .behind ≡ at + eventSize) ⌝ }
 {
     let at_event = signed8(bytes, at + EVENT_AT);
     let code = get2(bytes, at + EVENT_CODE);
     Event {
         at: at_event,
         code: code,
+        behind: at + EVENT_SIZE,
     }
 }

@@ -1,7 +1,7 @@
 -- Joining keeps the order of the spans, changes neither phase nor evidence anywhere, and leaves no two that touch and show the same.
 -- Assumes nothing.
 use mathlib.Core.Path.{_≡_, refl, sym, ap, _∙_}
-use mathlib.Core.Bool.{Bool, true, false, cond, _&&_}
+use mathlib.Core.Bool.{Bool, true, false, cond}
 use mathlib.Core.List.{List, [], _∷_}
 use mathlib.Core.Option.{Option, some}
 use Prim.Native.Nat.{ℕ, _<_}
@@ -9,12 +9,9 @@ use native.Mathlib.Decide.{decLt}
 use native.Mathlib.Omega.{arith}
 use borrow.Author.Tests.{eqb-true, eq-eqb}
 use lib.Dec.{eqb}
+use Rattle.wire.proofs.Signs.{and-true}
 use Rattle.spans.specs.Spans.{Mark, phase, unknown, sameMark, Span, look, holds, Within, Body, joins, joinedSpan, joinFrom, joined, Differ, Apart}
 use Rattle.spans.proofs.Lists.{look-in, look-early, look-late}
-
-and-true : (a b : Bool) → (a && b) ≡ true → (a ≡ true) × (b ≡ true)
-and-true true b e = (refl, e)
-and-true false b e = (e, cc)
 
 same-true : (a b : Mark) → sameMark a b ≡ true → a ≡ b
 same-true (phase p e) (phase q f) h =

@@ -8,12 +8,9 @@ use native.Mathlib.Decide.{decLt}
 use native.Mathlib.Omega.{arith}
 use borrow.Author.Tests.{lt-ltb, le-ltb, le-leb, lt-leb, leb-true, ltb-true}
 use lib.Dec.{leb, ltb}
+use Rattle.wire.proofs.Signs.{and-no}
 use Rattle.spans.specs.Spans.{Span, keep, clip, reach, look, holds, Within, In}
 use mathlib.Core.Logic.{inl, inr}
-
-and-no : (a : Bool) → (a && false) ≡ false
-and-no true = refl
-and-no false = refl
 
 module _ {A : Type 0} where
   pub ordered : (lo hi : ℕ) (ss : List (Span A)) → Within lo hi ss → lo ≤ hi

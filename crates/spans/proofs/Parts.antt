@@ -6,12 +6,9 @@ use Prim.Native.Nat.{ℕ, _<_, min, max}
 use native.Mathlib.Omega.{arith}
 use borrow.Author.Tests.{ne-eqb}
 use lib.Dec.{ltb, eqb}
+use Rattle.wire.proofs.Signs.{and-no}
 use Rattle.spans.specs.Spans.{Mark, phase, unknown, Span, Body, keep, sameMark, joins, joinedSpan, joinFrom, joined}
 use Rattle.spans.specs.Timeline.{Venue, Part, turns, walk, unjoined, timeline}
-
-and-no : (a : Bool) → (a && false) ≡ false
-and-no true = refl
-and-no false = refl
 
 module _ {A : Type 0} (B : Body A) (gap : A) (lacks : B .mark gap ≡ unknown) where
   -- every one of them shows a phase

@@ -7,7 +7,6 @@ use native.Mathlib.Decide.{decLe}
 use lib.ListN.{length}
 use Rattle.wire.specs.Fields.{Inside, Put}
 use Rattle.zone.specs.Zone.{Zone, zoneOf}
-use Rattle.zone.specs.Answers.{Valid}
 use Rattle.records.specs.Records.{ruleAt}
 use Rattle.spans.specs.Spans.{Mark, phase, unknown, Span, Within}
 use Rattle.spans.specs.Timeline.{Venue, turns, walk}
@@ -17,15 +16,14 @@ use Rattle.day.specs.Governing.{governing}
 use Rattle.day.specs.Days.{Values, Held, venueBy, venueOf}
 use Rattle.day.specs.Meaning.{valuesAt}
 use Rattle.venue.specs.declared.opened.Header.{Header}
-use Rattle.walk.specs.Walking.{ruleOf, pointOf, behind, rest, Stands, Begun, Comes}
-use Rattle.walk.specs.Looking.{Looked, Shown, Leads, LeadsOn}
+use Rattle.walk.specs.Walking.{ruleOf, pointOf, behind, Begun, Comes}
+use Rattle.walk.specs.Looking.{Leads, LeadsOn}
 use Rattle.walk.specs.declared.Walk.{Walk}
 use Rattle.walk.specs.declared.Piece.{Piece}
-use Rattle.walk.specs.declared.Pulled.{Pulled}
-use Rattle.walk.specs.declared.Pulled.the-variants.{Done, Next}
 use Rattle.walk.specs.declared.Turned.{Turned}
 use Rattle.walk.specs.declared.Turned.the-variants.{Done as Turned·Done, On}
-use Rattle.walk.proofs.Looking.{looked-shown, looked-comes}
+use Rattle.walk.proofs.Going as Going
+use Rattle.walk.proofs.Going.{left, come-left, turn-left, gone}
 use Rattle.answer.specs.Forms.{encodeAll, rowSize}
 use Rattle.pages.specs.Rows.{rowsOf}
 use Rattle.pages.specs.Pages.{stretchOf, rawForms, Slot, Ahead, Ordered, Standing, Coming, Counted, Ending, Ended, First}
@@ -97,9 +95,6 @@ blank-first {start} {end} h fits f = first-standing (rawBlank start end) h (blan
 
 -- ---- the walk's pieces
 
-pub stands-on : {s : List ℕ} {zone : Zone} {w w′ : Walk} → w′ ≡ w → {a : List ℕ} → Stands s zone w a → Stands s zone w′ a
-stands-on {s} {zone} e {a} h = subst (λ (x : Walk). Stands s zone x a) (sym e) h
-
 abbrev markOf : List ℕ → Piece → Mark
 markOf s q = phase (pointOf s q (q .point) .phase) (ruleOf s q .evidence)
 
@@ -107,11 +102,11 @@ module _ (s : List ℕ) (first : ℕ) (ats offsets rules : List ℕ) (hi : ℕ) 
   abbrev zone : Zone
   zone = zoneOf first ats offsets
 
-  abbrev venue : Venue Held
+  abbrev pub venue : Venue Held
   venue = venueBy zone (governing (map (ruleAt s) rules))
 
   abbrev pub pieces : Walk → List (Span Mark)
-  pieces w = map heldMark (rest s zone venue hi w)
+  pieces w = left heldMark s zone venue hi w
 
   -- a piece comes first
   abbrev pub ComesFirst : Walk → Piece → List ℕ → Type 0
@@ -123,17 +118,6 @@ module _ (s : List ℕ) (first : ℕ) (ats offsets rules : List ℕ) (hi : ℕ) 
     pub on : (all last : List (Span Mark)) (room : List ℕ) → Standing all (pieces w ++ last) start end room now p row whole
         → Standing all (pieces w′ ++ last) start end room now′ p′ row′ whole′
     pub kept : length now′ ≡ length now
-
-  -- a step: a piece of the date at hand, or the next turn
-  module _ (good : Valid first ats offsets) {w : Walk} {p : Pulled} {a : List ℕ} (h : Stands s zone w a) (l : Looked s a hi w p) where
-    pub come : {q : Piece} → p ≡ Next q → ComesFirst w q a
-    come e = looked-comes first ats offsets good s venue hi w a h (subst (Looked s a hi w) e l)
-
-    pub shown : p ≡ Done → Shown s zone hi w
-    shown e = looked-shown first ats offsets good s venue hi w a h (subst (Looked s a hi w) e l)
-
-  come-first : {w : Walk} {q : Piece} {a : List ℕ} → ComesFirst w q a → pieces w ≡ stretchOf (q .from .0) (q .to .0) (markOf s q) ∷ pieces (behind q)
-  come-first c = ap (map heldMark) (c .first)
 
   module _ {start end : ℕ} where
     walk-standing : {lo : ℕ} {w : Walk} {a : List ℕ} → Begun s zone venue (turns - 1) lo w a
@@ -156,7 +140,7 @@ module _ (s : List ℕ) (first : ℕ) (ats offsets rules : List ℕ) (hi : ℕ) 
         piece-standing : (all last : List (Span Mark)) (room : List ℕ) → Standing all (pieces w ++ last) start end room now p row whole
             → Standing all (stretchOf (q .from .0) (q .to .0) (markOf s q) ∷ (pieces (behind q) ++ last)) start end room now1 p1 row1 whole1
         piece-standing all last room x =
-            subst (λ (l : List (Span Mark)). Standing all (l ++ last) start end room now1 p1 row1 whole1) (come-first c) (r .on all last room x)
+            subst (λ (l : List (Span Mark)). Standing all (l ++ last) start end room now1 p1 row1 whole1) (come-left c heldMark) (r .on all last room x)
 
         pub walked-coming : {lo : ℕ} {a′ : List ℕ} → Begun s zone venue (turns - 1) lo w a′
             → AllComing (walked s first ats offsets rules lo hi) now p start end row whole
@@ -184,37 +168,24 @@ module _ (s : List ℕ) (first : ℕ) (ats offsets rules : List ℕ) (hi : ℕ) 
                 kept = k .kept ∙ r .kept;
               }
 
-          pub walked-less : length (pieces w2) + w2 .turns < length (pieces w1) + w1 .turns
-          walked-less =
-              let l = ap length (come-first c) in
-              let m = ap (λ (x : Walk). length (pieces x)) i in
-              let n : _ ≡ q .turns = ap (λ (x : Walk). x .turns) i in
-              omega (arith, l, m, n, c .turns)
-
       -- the walk turns, or is done and all its pieces are counted
       module _ (t : Turned) (a : List ℕ) (l : Leads s zone venue hi w1 t a) where
         module _ {w2 : Walk} (e : t ≡ On w2) where
           pub turned : LeadsOn s zone venue hi w1 w2 a
-          turned = subst (λ (x : Turned). Leads s zone venue hi w1 x a) e l
-
-          turn-pieces : pieces w1 ≡ pieces w2
-          turn-pieces = ap (map heldMark) (turned .same)
+          turned = Going.turned s zone venue hi w1 t a l e
 
           pub turn-walked : Walked start end w now p row whole w2 now1 p1 row1 whole1
           turn-walked =
               record {
                 on = λ all last room x.
-                    subst (λ (y : List (Span Mark)). Standing all (y ++ last) start end room now1 p1 row1 whole1) turn-pieces (r .on all last room x);
+                    subst (λ (y : List (Span Mark)). Standing all (y ++ last) start end room now1 p1 row1 whole1) (turn-left turned heldMark) (r .on all last room x);
                 kept = r .kept;
               }
-
-          pub turn-less : length (pieces w2) + w2 .turns < length (pieces w1) + w1 .turns
-          turn-less = let m = ap length turn-pieces in omega (arith, m, turned .fewer)
 
         pub walk-counted : t ≡ Turned·Done → {lo : ℕ} {a′ : List ℕ} → Begun s zone venue (turns - 1) lo w a′
             → AllCounted (walked s first ats offsets rules lo hi) now p start end row whole now1 p1 row1 whole1
         walk-counted e b =
-            let done = ap (map heldMark) (subst (λ (x : Turned). Leads s zone venue hi w1 x a) e l) in
+            let done = ap (map heldMark) (gone s zone venue hi w1 t a l e) in
             record {
               on = λ all last room x.
                   subst (λ (y : List (Span Mark)). Standing all (y ++ last) start end room now1 p1 row1 whole1) done (r .on all last room (walk-standing b last x));

@@ -1,17 +1,20 @@
 -- A span of a date as records: kind 16 with its kinds 18 behind it. Assumes nothing.
-use Prim.Native.Nat.{ℕ}
+use Prim.Native.Nat.{ℕ, _*_}
+use mathlib.Core.Path.{_≡_}
 use mathlib.Core.List.{List, _∷_, map}
 use lib.ListN.{length}
+use Rattle.wire.specs.Fields.{Put}
 use Rattle.zone.specs.Zone.{Zone}
 use Rattle.zone.specs.declared.Uncertainty.{Uncertainty}
 use Rattle.records.specs.Records.{Event}
 use Rattle.day.specs.Days.{Held, whole as wholeOf}
-use Rattle.events.specs.Happenings.{eventsIn}
+use Rattle.events.specs.Happenings.{found, eventsIn}
 use Rattle.events.specs.declared.Occurrence.{Occurrence}
 use Rattle.answer.specs.Forms as Forms
-use Rattle.answer.specs.Forms.{Form, phase, event}
+use Rattle.answer.specs.Forms.{Form, phase, event, encodeAll, eventSize}
 use Rattle.answer.specs.Meaning.{phaseOf, eventOf}
 use Rattle.answer.specs.declared.Phase.{Phase}
+use Rattle.tell.specs.declared.Trail.{Trail}
 
 -- what a phase segment shows: two boundaries, a phase and a rule, the whole uncertainty, the events. Of segments that were joined, the
 -- first start boundary and rule, the last end boundary, the widest uncertainty and all events
@@ -49,3 +52,8 @@ eventForm o = event (eventOf (o .code) (o .boundary) (o .evidence))
 
 abbrev pub shownForms : ℕ → ℕ → Shown → List Form
 shownForms from to x = phase (headForm from to (x .held) (x .whole) (length (x .events))) ∷ map eventForm (x .events)
+
+-- the events of a span from `from` to before `to`, written from `at` on, and how many they are
+pub record Trails (z : Zone) (es : List Event) (from to : ℕ) (old : List ℕ) (at : ℕ) (new : List ℕ) (r : Trail) : Type 0 where
+  pub put : Put old at (encodeAll (map eventForm (eventsIn z es from to))) (eventSize * length (found z es from to)) new (r .behind)
+  pub count : r .count ≡ length (found z es from to)

@@ -9,11 +9,11 @@ ghost use Rattle.zone.specs.Answers.{Valid};
 ghost use Rattle.records.specs.Records.{eventAt};
 ghost use Rattle.venue.specs.Reading.{ListedRule, ListedEvent, ListedEvents};
 ghost use Rattle.day.specs.Meaning.{heldBy};
-ghost use Rattle.events.specs.Happenings.{found, byInstant, eventsIn};
+ghost use Rattle.events.specs.Happenings.{found, byInstant};
 ghost use Rattle.events.specs.Keeping.{listed, keptOf};
 ghost use Rattle.answer.specs.Forms.{encodeAll, eventSize};
 ghost use Rattle.records.specs.Limits.{base};
-ghost use Rattle.tell.specs.Shown.{headOf, eventForm};
+ghost use Rattle.tell.specs.Shown.{headOf, eventForm, Trails};
 use answer::Phase;
 use answer::put_event;
 use day::Segment;
@@ -63,6 +63,12 @@ pub fn phase_of(
     }
 }
 
+// A span's events as they are written: the place behind them, and how many they are.
+pub struct Trail {
+    pub behind: usize,
+    pub count: usize,
+}
+
 // How many events of a span are kept at most.
 const MOST_KEPT: usize = 32;
 
@@ -97,7 +103,7 @@ fn put_kept(book: &[u8], when: &[u64], which: &[u32], n: usize, out: &mut [u8], 
     place
 }
 
-// The events of a span, each sought behind the one before it, from `at` on. Answers the place behind them.
+// The events of a span, each sought behind the one before it, from `at` on.
 fn put_sought(
     book: &[u8],
     first: u32,
@@ -108,14 +114,11 @@ fn put_sought(
     to: Instant,
     out: &mut [u8],
     at: usize,
-) -> usize
+) -> Trail
     requires { ⌜ Valid first (now ats) (now offsets) × ListedEvents (now book) (now events) × (length (now events) ≤ base .events)
         × Inside at (eventSize * length (found (zoneOf first (now ats) (now offsets)) (map (eventAt (now book)) (now events)) (from .0) (to .0))) (now out) ⌝ }
-    ensures { λ r. ⌜ Put (now (out .entry)) at
-        (encodeAll (map eventForm (eventsIn (zoneOf first (now (ats .entry)) (now (offsets .entry)))
-        (map (eventAt (now (book .entry))) (now (events .entry))) (from .0) (to .0))))
-        (eventSize * length (found (zoneOf first (now (ats .entry)) (now (offsets .entry))) (map (eventAt (now (book .entry))) (now (events .entry))) (from .0) (to .0)))
-        (now (out .exit)) r ⌝ }
+    ensures { λ r. ⌜ Trails (zoneOf first (now (ats .entry)) (now (offsets .entry))) (map (eventAt (now (book .entry))) (now (events .entry)))
+        (from .0) (to .0) (now (out .entry)) at (now (out .exit)) r ⌝ }
 {
     let s = search_events(book, first, ats, offsets, events, from, to, Instant(0), 0);
     let count = s.count;
@@ -125,7 +128,10 @@ fn put_sought(
     while i < count {
         match best {
             Best::None => {
-                return place;
+                return Trail {
+                    behind: place,
+                    count,
+                };
             }
             Best::Some(o, index) => {
                 let boundary = o.boundary;
@@ -137,10 +143,13 @@ fn put_sought(
         }
         i += 1;
     }
-    place
+    Trail {
+        behind: place,
+        count,
+    }
 }
 
-// The events of a span, one after the other, from `at` on. Answers the place behind them.
+// The events of a span, one after the other, from `at` on.
 pub fn put_events(
     book: &[u8],
     first: u32,
@@ -151,17 +160,17 @@ pub fn put_events(
     to: Instant,
     out: &mut [u8],
     at: usize,
-) -> usize
+) -> Trail
     requires { ⌜ Valid first (now ats) (now offsets) × ListedEvents (now book) (now events) × (length (now events) ≤ base .events)
         × Inside at (eventSize * length (found (zoneOf first (now ats) (now offsets)) (map (eventAt (now book)) (now events)) (from .0) (to .0))) (now out) ⌝ }
-    ensures { λ r. ⌜ Put (now (out .entry)) at
-        (encodeAll (map eventForm (eventsIn (zoneOf first (now (ats .entry)) (now (offsets .entry)))
-        (map (eventAt (now (book .entry))) (now (events .entry))) (from .0) (to .0))))
-        (eventSize * length (found (zoneOf first (now (ats .entry)) (now (offsets .entry))) (map (eventAt (now (book .entry))) (now (events .entry))) (from .0) (to .0)))
-        (now (out .exit)) r ⌝ }
+    ensures { λ r. ⌜ Trails (zoneOf first (now (ats .entry)) (now (offsets .entry))) (map (eventAt (now (book .entry))) (now (events .entry)))
+        (from .0) (to .0) (now (out .entry)) at (now (out .exit)) r ⌝ }
 {
     if events.len() == 0 {
-        return at;
+        return Trail {
+            behind: at,
+            count: 0,
+        };
     }
     let mut when = [0u64; MOST_KEPT];
     let mut which = [0u32; MOST_KEPT];
@@ -181,7 +190,10 @@ pub fn put_events(
             if MOST_KEPT < n {
                 return put_sought(book, first, ats, offsets, events, from, to, out, at);
             }
-            put_kept(book, &when, &which, n, out, at)
+            Trail {
+                behind: put_kept(book, &when, &which, n, out, at),
+                count: n,
+            }
         }
     }
 }

@@ -28,7 +28,7 @@ use Rattle.lend.specs.declared.Reply.{Reply}
 use Rattle.lend.proofs.Replies.{lent-short, lent-written, lent-same, lent-reply}
 use Rattle.tell.specs.Shown.{Shown, shown, shownForms}
 use Rattle.joining.specs.Joining.{phases}
-use Rattle.joining.specs.Walked.{phaseForms, walkSpans}
+use Rattle.walk_records.specs.Walked.{phaseForms, walkSpans}
 use Rattle.timeline.specs.Segments.{markOf, merged, segments, showing, timelineOf}
 use Rattle.timeline.specs.Asking.{segmentForms, timelineForms}
 use Rattle.timeline.specs.Private.{gapForms, told}

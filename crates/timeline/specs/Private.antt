@@ -7,7 +7,7 @@ use Rattle.day.specs.Days.{Values}
 use Rattle.answer.specs.Forms.{Cover, Form}
 use Rattle.answer.specs.Meaning.{coverOf}
 use Rattle.answer.specs.declared.Covered.{Covered}
-use Rattle.joining.specs.Walked.{phaseForms, walkSpans}
+use Rattle.walk_records.specs.Walked.{phaseForms, walkSpans}
 use Rattle.timeline.specs.Asking.{timelineForms}
 
 -- the stretch from `from` to before `to`, of which nothing is known, unless it is empty

@@ -19,12 +19,10 @@ use answer::GAP_SIZE;
 use answer::put_gap;
 use book_query::Judged;
 use book_query::judged_window;
-use joining::walk_size;
 use lend::NO_ROOM;
 use lend::Reply;
 use lend::answered;
 use lend::refused;
-use passes::put_walk;
 use records::MOST_EVENTS;
 use records::MOST_RULES;
 use records::MOST_TRANSITIONS;
@@ -33,6 +31,8 @@ use spans::later;
 use venue::Header;
 use venue::Opened;
 use venue::open;
+use walk_records::put_walk;
+use walk_records::walk_size;
 use zone::Instant;
 
 // How many bytes a stretch takes of which nothing is known.

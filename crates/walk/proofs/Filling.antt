@@ -1,6 +1,6 @@
 -- An array filled with a date's boundaries, one after the other. Assumes nothing.
 use mathlib.Core.Path.{_≡_, refl, sym, ap, ap₂, _∙_, subst}
-use mathlib.Core.Bool.{Bool, true, false, _&&_}
+use mathlib.Core.Bool.{Bool, true, _&&_}
 use mathlib.Core.List.{List, _++_}
 use mathlib.Core.Logic.{_↔_}
 use Prim.Native.Nat.{ℕ, suc, _+_, _≤_, _<_, max}
@@ -11,6 +11,7 @@ use native.Mathlib.Omega.{arith}
 use lib.ListN.{length, set, drop, length-set}
 use lib.Seq.{paste, paste-zero, paste-suc, take-length}
 use Rattle.wire.specs.Fields.{wrote}
+use Rattle.wire.proofs.Signs.{and-true}
 use Rattle.zone.specs.Zone.{Zone, resolve}
 use Rattle.zone.specs.Units.{nearestReading, readingAt}
 use Rattle.zone.specs.Answers.{taken, uncertain}
@@ -80,9 +81,8 @@ exact-clear r = (to r, λ c. ap isExact (c Exact))
     to (Fold d) e u = absurd (let n : _≡_ {A = ℕ} 0 1 = cc in omega arith)
     to (Gap d) e u = absurd (let n : _≡_ {A = ℕ} 0 1 = cc in omega arith)
 
-and-true : (a b : Bool) → ((a && b) ≡ true) ↔ ((a ≡ true) × (b ≡ true))
-and-true true b = (λ e. (refl, e), λ p. p .1)
-and-true false b = (λ e. absurd (let n : _≡_ {A = ℕ} 0 1 = cc in omega arith), λ p. p .0)
+and-both : (a b : Bool) → ((a && b) ≡ true) ↔ ((a ≡ true) × (b ≡ true))
+and-both a b = (and-true a b, λ p. ap₂ _&&_ (p .0) (p .1))
 
 -- by the uncertainty of an exact time
 module _ (z : Zone) (d x : ℕ) {u : Uncertainty} (is : u ≡ uncertain (resolve z (nearestReading (readingAt d x))) Exact) {more : Bool} (so : more ≡ isExact u) where
@@ -105,7 +105,7 @@ module _ (z : Zone) (r : Rule) (d : ℕ) where
         → more ≡ isExact u → ClearTo (calm && more) (i + 1)
     clear-next u e f =
         let own = time-clear z d (pointAt z r d i .time) e f in
-        let both = and-true calm more in (
+        let both = and-both calm more in (
           λ q j h. go (c .0 (both .0 q .0)) (own .0 (both .0 q .1)) j (decLt j i) h,
           λ k. both .1 (c .1 (λ j h. k j (omega arith)), own .1 (k i (omega arith))),
         )
@@ -119,7 +119,7 @@ module _ (z : Zone) (r : Rule) (d : ℕ) where
         → more ≡ isExact u → ((calm && more) ≡ true) ↔ Calm z r d
     clear-all l u e f =
         let last = time-clear z (suc d) 0 e f in
-        let both = and-true calm more in (
+        let both = and-both calm more in (
           λ q. record { points = λ j h. c .0 (both .0 q .0) j (omega arith); midnight = last .0 (both .0 q .1) },
           λ k. both .1 (c .1 (λ j h. k .points j (omega arith)), last .1 (k .midnight)),
         )

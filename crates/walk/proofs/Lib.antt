@@ -1,5 +1,6 @@
 pub mod Edges
 pub mod Filling
+pub mod Going
 pub mod Laws
 pub mod Looking
 pub mod Near

@@ -4,6 +4,8 @@ use Rattle.tell.proofs.Trailing.{put-none}
 use Rattle.tell.proofs.Kept.{held-put}
 use Rattle.zone.specs.Zone.{zoneOf}
 use native.Mathlib.Omega.{arith}
+use lib.ListN.{length}
+use mathlib.Core.Path.{sym, ap}
 use borrow.Author.Needs.{needs}
 use Rattle.tell.proofs.put_events.Statement.{statement}
 use Rattle.tell.proofs.put_events.Tie as tie
@@ -11,8 +13,9 @@ use Rattle.tell.proofs.put_events.Tie as tie
 returns : tie.Need-returns
 returns c =
     let args = c .before .before .before .before .before .before .args in
-    put-none _ _ (none-found (zoneOf (args .first) (args .ats .now) (args .offsets .now)) (args .book .now) (args .events .now) (args .from .0) (args .to .0)
-    (omega (arith, c .if1 .taken)))
+    let none = none-found (zoneOf (args .first) (args .ats .now) (args .offsets .now)) (args .book .now) (args .events .now) (args .from .0) (args .to .0)
+    (omega (arith, c .if1 .taken)) in
+    record { put = put-none _ _ none; count = sym (ap length none) }
 
 put-kept-requires : tie.Need-put-kept-requires
 put-kept-requires c κs =
@@ -31,7 +34,7 @@ returns-4 c =
     let at-collect = at-n .before .before .before .before in
     let pre = at-collect .before .before .before .before .before .before .before .before .before .pre in
     let held = collects-all _ _ _ _ _ (pre .0) (pre .1) _ _ (at-collect .collect .ensures) (at-n .n .given .1) in
-    held-put held (at-if2 .if2 .left) (at-if2 .if2 .left) (at-put-kept .put-kept .ensures)
+    record { put = held-put held (at-if2 .if2 .left) (at-if2 .if2 .left) (at-put-kept .put-kept .ensures); count = held .count }
 
 pub put-events-spec : {M : Type 1} → statement M
 put-events-spec =

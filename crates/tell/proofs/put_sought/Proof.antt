@@ -47,7 +47,7 @@ loop-holds c =
     (begun-count 0 0 _ begun, trail-start _ _ _ (c .before .before .before .before .before .before .pre .3) (ap (λ (s : Search). s .best) begun))
 
 returns : At tie.Need-returns
-returns c = trail-none _ _ _ (c .before .before .before .loop .inv .1) (c .enum-told .given .1)
+returns c = let inv = c .before .before .before .loop .inv in record { put = trail-none _ _ _ (inv .1) (c .enum-told .given .1); count = inv .0 }
 
 put-event-requires : At tie.Need-put-event-requires
 put-event-requires c κs =
@@ -83,7 +83,7 @@ loop-again c =
     )
 
 returns-2 : At tie.Need-returns-2
-returns-2 c = let inv = c .before .loop .inv in trail-end _ _ _ (inv .1) (omega (arith, c .loop-test .left, inv .0))
+returns-2 c = let inv = c .before .loop .inv in record { put = trail-end _ _ _ (inv .1) (omega (arith, c .loop-test .left, inv .0)); count = inv .0 }
 
 pub put-sought-spec : {M : Type 1} → statement M
 put-sought-spec =

@@ -1,6 +1,6 @@
 use Rattle.classes.proofs.Shown.{Along, along-start, along-end, along-mark, along-segment, along-event}
 use Rattle.rows.specs.declared.Stands.{Stands}
-use Rattle.rows.proofs.Steps.{Tells, told, segment-after}
+use Rattle.rows.proofs.Steps.{Tells, Happens, told, segment-after}
 use Prim.Native.Nat.{_-_, _^_, _<_}
 use mathlib.Core.Path.{_≡_, sym, _∙_}
 use lib.ListN.{length}
@@ -43,8 +43,8 @@ returns-2 c =
     let at-stands-at = c .before .before in
     along-end _ _ _ _ (at-stands-at .before .loop .inv) (tells at-stands-at (c .enum-told2 .given .1))
 
-add-t12 : At tie.Need-add-t12
-add-t12 c =
+add-behind : At tie.Need-add-behind
+add-behind c =
     let at-stands-at = c .before .before in
     omega (arith, tells at-stands-at (c .enum-told3 .given .1) .inside, short (at-stands-at .before))
 
@@ -73,21 +73,25 @@ loop-again c =
     along-segment _ _ _ _ (at-stands-at .before .loop .inv) (tells at-stands-at (at-enum-told4 .enum-told4 .given .1))
     (at-segment-at .segment-at .ensures) (at-class-in .class-in .ensures) (at-first .first .ensures)
 
-add-at : At tie.Need-add-at
-add-at c =
-    let at-stands-at = c .before .before in
-    omega (arith, tells at-stands-at (c .enum-told5 .given .1) .inside, short (at-stands-at .before))
+event-at-requires : At tie.Need-event-at-requires
+event-at-requires c κs = tells (c .before .before) (c .enum-told5 .given .1) .inside
+
+-- what follows from the event
+happens : (c : At tie.After-event-at)
+    → let at-stands-at = c .before .before .before in
+    let args = at-stands-at .before .before .before .args in
+    let now = at-stands-at .before .loop in
+    Happens (args .marks) (args .rows .now) (now .at) (now .least) (now .waiting)
+happens c = tells (c .before .before .before) (c .before .enum-told5 .given .1)
 
 sub-waiting : At tie.Need-sub-waiting
-sub-waiting c = omega (arith, tells (c .before .before) (c .enum-told5 .given .1) .some)
+sub-waiting c = omega (arith, happens c .some)
 
 loop-less-2 : At tie.Need-loop-less-2
-loop-less-2 c = omega (arith, tells (c .before .before) (c .enum-told5 .given .1) .inside)
+loop-less-2 c = omega (arith, happens c .inside, c .event-at .ensures .2)
 
 loop-again-2 : At tie.Need-loop-again-2
-loop-again-2 c =
-    let at-stands-at = c .before .before in
-    along-event _ _ _ _ (at-stands-at .before .loop .inv) (tells at-stands-at (c .enum-told5 .given .1))
+loop-again-2 c = along-event _ _ _ _ (c .before .before .before .before .loop .inv) (happens c) (c .event-at .ensures .2)
 
 pub row-class-spec : {M : Type 1} → statement M
 row-class-spec =
@@ -102,7 +106,7 @@ row-class-spec =
     (λ c. search needs)
     returns-2
     (λ c. search needs)
-    add-t12
+    add-behind
     returns-3
     (λ c. search needs)
     segment-at-requires
@@ -111,7 +115,7 @@ row-class-spec =
     loop-less
     loop-again
     (λ c. search needs)
-    add-at
+    event-at-requires
     sub-waiting
     loop-less-2
     loop-again-2)

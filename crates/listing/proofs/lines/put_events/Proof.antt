@@ -36,7 +36,8 @@ loop-again c =
     let at-put-event = c .before .before in
     let at-event-at = at-put-event .before .before .before in
     let l = at-event-at .before in
-    let read = at-event-at .event-at .ensures in (
+    let read = at-event-at .event-at .ensures in
+    rw (read .2) (
       omega (arith, l .loop-test .taken, l .before .loop .inv .0),
       goes-on (event-one _ _ _ (l .loop-test .taken) (l .before .loop .inv .1)) (event-put _ _ _ _ (read .0) (read .1) (at-put-event .put-event .ensures)),
     )
@@ -53,7 +54,6 @@ put-events-spec =
     loop-holds
     (λ c κs. search needs)
     put-event-requires
-    (λ c. search needs)
     (λ c. search needs)
     (λ c. search needs)
     loop-again

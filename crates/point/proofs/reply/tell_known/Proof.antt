@@ -68,7 +68,7 @@ returns-2 c =
     let is-head = ap phaseOf (at-phase-of .phase-of .ensures) ∙ ap (λ (u : Uncertainty). head u count) (at-widest .widest .ensures) in
     let w =
     shown-put from to (shownIn (start at-count-events)) (counted at-count-events) is-head (at-put-phase .put-phase .ensures)
-    (at-put-events .put-events .ensures) (omega (arith, at-count-events .count-events .ensures .0, at-if1 .if1 .left)) in
+    (at-put-events .put-events .ensures .put) (omega (arith, at-count-events .count-events .ensures .0, at-if1 .if1 .left)) in
     lent-reply
     (lent-written (answer (start at-count-events)) _ refl (omega (arith, at-if1 .if1 .left, long at-count-events)) (w .same)
     (omega (arith, w .behind, w .many)))

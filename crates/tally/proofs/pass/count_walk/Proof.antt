@@ -1,12 +1,11 @@
-use Rattle.tally.proofs.Passing.{stands-on, pieces, ComesFirst, Walked, come, shown, walked-none, walked-coming, walked-next, walked-less, turned, turn-walked, turn-less, walk-counted}
+use Rattle.tally.proofs.Passing.{venue, ComesFirst, Walked, walked-none, walked-coming, walked-next, turned, turn-walked, walk-counted}
+use Rattle.walk.proofs.Going.{toGo, come, shown, stands-on, come-fewer, turn-fewer}
 use Rattle.venue.proofs.Laws.{good-rule}
 use Rattle.walk.specs.Walking.{Stands}
 use Rattle.day.specs.Keeping.{Keeps}
 use Rattle.day.proofs.Keeping.{keeps-blank}
 use Rattle.walk.proofs.Looking.{stands-held}
 use Rattle.zone.specs.Zone.{zoneOf}
-use lib.ListN.{length}
-use Prim.Native.Nat.{_+_}
 use native.Mathlib.Omega.{arith}
 use borrow.Author.Needs.{needs}
 use Rattle.tally.proofs.pass.count_walk.Statement.{statement}
@@ -19,7 +18,7 @@ Inv-pieces book first ats offsets rules hi start end out₀ row₀ whole₀ kept
 
 abbrev μ-pieces : tie.MeasureT-pieces
 μ-pieces book first ats offsets rules hi start end out₀ row₀ whole₀ kept₀ edges₀ w₀ place₀ out row whole kept edges w place =
-    length (pieces book first ats offsets rules (hi .0) w) + w .turns
+    toGo book (zoneOf first ats offsets) (venue book first ats offsets rules (hi .0)) (hi .0) w
 
 -- a need, or a place, at this invariant and measure
 abbrev At : (tie.InvT-pieces → tie.MeasureT-pieces → Type 0) → Type 0
@@ -41,7 +40,7 @@ comes-at : (c : At tie.After-q)
 comes-at c =
     let at-here = c .before .before in
     let at-pieces = at-here .before .before in
-    come _ _ _ _ (entry at-pieces .args .rules .now) _ (entry at-pieces .pre .0) (at-pieces .pieces .inv .0) (at-here .here .ensures) (c .q .given .1)
+    come _ _ _ (entry at-pieces .pre .0) _ _ (at-pieces .pieces .inv .0) (at-here .here .ensures) _ (c .q .given .1)
 
 begin-requires : At tie.Need-begin-requires
 begin-requires c κs =
@@ -72,9 +71,7 @@ behind-requires c κs =
 
 pieces-less : At tie.Need-pieces-less
 pieces-less c =
-    let at-point-phase = c .before .before .before .before .before .before .before in
-    let at-q = piece at-point-phase in
-    walked-less _ _ _ _ _ _ (at-q .before .before .before .before .pieces .inv .1) (comes-at at-q) (at-point-phase .point-phase .ensures) (c .behind .ensures)
+    come-fewer (comes-at (piece (c .before .before .before .before .before .before .before))) (c .behind .ensures)
 
 pieces-again : At tie.Need-pieces-again
 pieces-again c =
@@ -93,14 +90,14 @@ turn-on-requires c κs =
     let at-here = at-enum-told .before .before in
     let at-pieces = at-here .before .before in
     let pre = entry at-pieces .pre in
-    (pre .0, pre .1, at-pieces .pieces .inv .2, shown _ _ _ _ (entry at-pieces .args .rules .now) _ (pre .0) (at-pieces .pieces .inv .0) (at-here .here .ensures) (at-enum-told .enum-told .given .1))
+    (pre .0, pre .1, at-pieces .pieces .inv .2, shown _ _ _ (pre .0) _ _ (at-pieces .pieces .inv .0) (at-here .here .ensures) (at-enum-told .enum-told .given .1))
 
 pieces-less-2 : At tie.Need-pieces-less-2
 pieces-less-2 c =
     let at-next = c .before in
     let at-turn-on = at-next .before .before in
     let at-pieces = at-turn-on .before .before .before .before .before .before .before in
-    turn-less _ _ _ _ _ _ (at-pieces .pieces .inv .1) _ _ (at-turn-on .turn-on .ensures .0) (at-next .next .given .1)
+    turn-fewer (turned _ _ _ _ _ _ (at-pieces .pieces .inv .1) _ _ (at-turn-on .turn-on .ensures .0) (at-next .next .given .1))
 
 pieces-again-2 : At tie.Need-pieces-again-2
 pieces-again-2 c =

@@ -1,4 +1,0 @@
-mod Records
-mod Passes
-mod Heads
-mod Steps

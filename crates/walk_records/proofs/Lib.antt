@@ -1,0 +1,6 @@
+mod Sizes
+mod Pieces
+mod Records
+mod Passes
+mod Heads
+mod Steps
