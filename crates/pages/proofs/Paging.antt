@@ -1,11 +1,13 @@
 -- The pages: rows that are written one after the other while stretches come. Assumes nothing.
 use mathlib.Core.Path.{_≡_, refl, sym, ap, subst, _∙_}
-use mathlib.Core.Bool.{Bool}
+use mathlib.Core.Bool.{Bool, true, false, cond}
 use mathlib.Core.List.{List, [], _∷_, _++_, map, append-assoc, append-nil}
-use Prim.Native.Nat.{ℕ, zero, suc, _+_, _-_, _*_, _/_, _≤_, _<_, min, max}
+use mathlib.Core.Option.{Option, none, some}
+use Prim.Native.Nat.{ℕ, zero, suc, _+_, _-_, _*_, _/_, _≤_, _<_}
 use native.Mathlib.Nat.{zero-add}
 use native.Mathlib.Omega.{arith}
-use borrow.Author.Tests.{lt-ltb, le-ltb}
+use borrow.Author.Tests.{lt-ltb, le-ltb, le-leb, lt-leb}
+use lib.Dec.{leb}
 use lib.ListN.{length, getD, length-append}
 use Rattle.wire.specs.Fields.{Inside, Put}
 use Rattle.wire.proofs.Writing.{also, wrote-nothing}
@@ -18,7 +20,7 @@ use Rattle.answer.specs.Meaning.{totalsOf}
 use Rattle.answer.proofs.Readback.{encode-length}
 use Rattle.answer.proofs.Several.{one-form, encode-append, append-length}
 use Rattle.pages.specs.Rows.{rowEnd, rowsFrom, rowsOf, rowTotals, dayForm, mostNs}
-use Rattle.pages.specs.Pages.{marks, stretchOf, kindAt, Slot, fresh, shifted, Filled, Ordered, dayForms, rawForms, Paged, Standing, Coming, Counted, Ending, Ended, First}
+use Rattle.pages.specs.Pages.{marks, stretchOf, kindAt, Slot, fresh, shifted, Filled, Ordered, dayForms, rawForms, Paged, Standing, partOf, Sheet, sheetOf, rolled, Coming, Counted, Ending, Ended, First}
 use Rattle.pages.specs.declared.Page.{Page}
 use Rattle.pages.proofs.Counting.{small, one-none, ahead-none, slot-small, filled-fresh, filled-all, filled-one, takes, gets}
 
@@ -138,7 +140,7 @@ module _ {all left : List (Span Mark)} {start end : ℕ} {room : List ℕ} {a b 
 -- ---- a stretch comes
 
 module _ {all left : List (Span Mark)} {from to : ℕ} {m : Mark} {a b : ℕ} {row : List ℕ} (fits : (k : Mark → Bool) (x y : ℕ) → total marks k x y all ≤ y - x)
-    (w : Filled all (stretchOf from to m ∷ left) a b row) {j n : ℕ} (is : Slot m j) (e : n ≡ min b to - max a from) where
+    (w : Filled all (stretchOf from to m ∷ left) a b row) {j n : ℕ} (is : Slot m j) (e : n ≡ partOf a b from to) where
   -- what counting it requires
   shift-room : {most : ℕ} → b < most → (j < 9) × (n ≤ getD row 9 0) × (getD row j 0 + n < most)
   shift-room h = (slot-small m is, omega (arith, takes fits w is), omega (arith, gets fits w is))
@@ -184,18 +186,36 @@ module _ {all left : List (Span Mark)} {from to : ℕ} {m : Mark} {start end : �
 
 -- ---- as the code goes
 
+-- the stretch ends in the open row, or it goes on in the next
+module _ (s : Sheet) (end from to slot : ℕ) {n : ℕ} (e : n ≡ partOf (s .a) (s .b) from to) {row : List ℕ} (f : row ≡ shifted (s .row) slot n) where
+  counts : row ≡ shifted (s .row) slot (partOf (s .a) (s .b) from to)
+  counts = f ∙ ap (shifted (s .row) slot) e
+
+  rolled-last : to ≤ s .b → rolled 1 end from to slot s ≡ some (record { a = s .a; b = s .b; at = s .at; row = row; bytes = s .bytes })
+  unfolding rolled
+  rolled-last h = rw (le-leb to (s .b) h, ← counts) refl
+
+  rolled-more : s .b < to → {bytes row1 : List ℕ} {at b : ℕ} → Put (s .bytes) (s .at) (encode (day (totalsOf (s .a) (s .b) row))) rowSize bytes at
+      → b ≡ rowEnd end (s .b) → row1 ≡ fresh (b - s .b)
+      → {x : Sheet} (k : ℕ) → rolled k end from to slot (record { a = s .b; b = b; at = at; row = row1; bytes = bytes }) ≡ some x
+      → rolled (suc k) end from to slot s ≡ some x
+  unfolding rolled
+  rolled-more h y i g k q = rw (lt-leb to (s .b) h, ← counts, ← y .same, ← y .behind, ← i, ← g) q
+
 -- rows are closed while one stretch lasts
 pub record Rolling (now : List ℕ) (a b at : ℕ) (row : List ℕ) (end from to slot : ℕ) (now′ : List ℕ) (a′ b′ at′ : ℕ) (row′ : List ℕ) : Type 0 where
   pub on : (all left : List (Span Mark)) (start : ℕ) (room : List ℕ) (m : Mark) → Slot m slot
       → Paged all (stretchOf from to m ∷ left) start end room a b at row now
       → Paged all (stretchOf from to m ∷ left) start end room a′ b′ at′ row′ now′
   pub kept : length now′ ≡ length now
+  pub rolls : (x : Sheet) (n : ℕ) → rolled n end from to slot (record { a = a′; b = b′; at = at′; row = row′; bytes = now′ }) ≡ some x
+      → (k : ℕ) × (rolled k end from to slot (record { a = a; b = b; at = at; row = row; bytes = now }) ≡ some x)
 
 pub rolling-none : (now : List ℕ) (a b at : ℕ) (row : List ℕ) (end from to slot : ℕ) → Rolling now a b at row end from to slot now a b at row
-rolling-none now a b at row end from to slot = record { on = λ all left start room m is w. w; kept = refl }
+rolling-none now a b at row end from to slot = record { on = λ all left start room m is w. w; kept = refl; rolls = λ x n e. (n, e) }
 
 module _ {now : List ℕ} {a b at : ℕ} {row : List ℕ} {end from to slot : ℕ} {now1 : List ℕ} {a1 b1 at1 : ℕ} {row1 : List ℕ}
-    (r : Rolling now a b at row end from to slot now1 a1 b1 at1 row1) {n : ℕ} (e : n ≡ min b1 to - max a1 from) {row2 : List ℕ} (f : row2 ≡ shifted row1 slot n) where
+    (r : Rolling now a b at row end from to slot now1 a1 b1 at1 row1) {n : ℕ} (e : n ≡ partOf a1 b1 from to) {row2 : List ℕ} (f : row2 ≡ shifted row1 slot n) where
   -- another row
   pub rolling-next : b1 < to → {now2 row3 : List ℕ} {at2 b2 : ℕ} → Put now1 at1 (encode (day (totalsOf a1 b1 row2))) rowSize now2 at2
       → b2 ≡ rowEnd end b1 → row3 ≡ fresh (b2 - b1)
@@ -204,6 +224,7 @@ module _ {now : List ℕ} {a b at : ℕ} {row : List ℕ} {end from to slot : �
       record {
         on = λ all left start room m is w. let v = r .on all left start room m is w in page-next v (shift-one (v .small) (v .filled) is e f) h y i g;
         kept = y .kept ∙ r .kept;
+        rolls = λ x k q. r .rolls x (suc k) (rolled-more _ _ _ _ _ e f h y i g k q);
       }
 
   -- the last one
@@ -214,7 +235,7 @@ module _ {now : List ℕ} {a b at : ℕ} {row : List ℕ} {end from to slot : �
 
 -- the page of a stretch that comes
 module _ {now : List ℕ} {p : Page} {start end from to slot : ℕ} {row whole : List ℕ} (c : Coming now p start end from to slot row whole) where
-  pub coming-whole : {n : ℕ} → n ≡ min end to - max start from → end < 18446744073709551616
+  pub coming-whole : {n : ℕ} → n ≡ partOf start end from to → end < 18446744073709551616
       → (slot < 9) × (n ≤ getD whole 9 0) × (getD whole slot 0 + n < 18446744073709551616)
   coming-whole e h = shift-room (c .stands .page .small) (c .stands .closing) (c .is) e h
 
@@ -223,7 +244,7 @@ module _ {now : List ℕ} {p : Page} {start end from to slot : ℕ} {row whole :
     abbrev paged : Paged (c .all) (stretchOf from to (c .mark) ∷ c .left) start end (c .room) a1 b1 at1 row1 now1
     paged = r .on (c .all) (c .left) start (c .room) (c .mark) (c .is) (c .stands .page)
 
-    module _ {n : ℕ} (e : n ≡ min b1 to - max a1 from) where
+    module _ {n : ℕ} (e : n ≡ partOf a1 b1 from to) where
       pub coming-row : end < 18446744073709551616 → (slot < 9) × (n ≤ getD row1 9 0) × (getD row1 slot 0 + n < 18446744073709551616)
       coming-row h = shift-room (paged .small) (paged .filled) (c .is) e (omega (arith, paged .edge))
 
@@ -237,15 +258,36 @@ module _ {now : List ℕ} {p : Page} {start end from to slot : ℕ} {row whole :
 -- it is counted
 pub counted : {now : List ℕ} {p : Page} {start end from to slot : ℕ} {row whole now1 : List ℕ} {p1 : Page} {row1 whole1 : List ℕ}
     → Rolling now (p .start .0) (p .end .0) (p .at) row end from to slot now1 (p1 .start .0) (p1 .end .0) (p1 .at) row1 → {n : ℕ}
-    → n ≡ min (p1 .end .0) to - max (p1 .start .0) from
-    → {row2 : List ℕ} → row2 ≡ shifted row1 slot n → to ≤ p1 .end .0 → {l : ℕ} → l ≡ min end to - max start from → whole1 ≡ shifted whole slot l
+    → n ≡ partOf (p1 .start .0) (p1 .end .0) from to
+    → {row2 : List ℕ} → row2 ≡ shifted row1 slot n → to ≤ p1 .end .0 → {l : ℕ} → l ≡ partOf start end from to → whole1 ≡ shifted whole slot l
     → Counted now p start end from to slot row whole now1 p1 row2 whole1
-counted {start = start} r e f h i g =
+counted {start = start} {slot = slot} {whole = whole} r e f h i g =
+    let last = r .rolls _ 1 (rolled-last _ _ _ _ _ e f h) in
     record {
       on = λ all left room m is w. record { page = rolling-end r e f h all left start room m is (w .page); closing = shift-one (w .page .small) (w .closing) is i g };
       reached = h;
       kept = r .kept;
+      fuel = last .0;
+      rolls = last .1;
+      closes = g ∙ ap (shifted whole slot) i;
     }
+
+-- and in one way: the rows that are closed, the open row, its totals, the closing totals and the bytes are determined
+rolled-once : (n m end from to slot : ℕ) (s x y : Sheet) → rolled n end from to slot s ≡ some x → rolled m end from to slot s ≡ some y → x ≡ y
+unfolding rolled
+rolled-once zero m end from to slot s x y e f = let z : _≡_ {A = ℕ} 0 1 = cc in absurd (omega arith)
+rolled-once (suc n) zero end from to slot s x y e f = let z : _≡_ {A = ℕ} 0 1 = cc in absurd (omega arith)
+rolled-once (suc n) (suc m) end from to slot s x y e f = go (leb to (s .b)) _ _ _ (rolled-once n m end from to slot _ x y) e f
+  where
+    go : (b : Bool) (o : Sheet) (p q : Option Sheet) → (p ≡ some x → q ≡ some y → x ≡ y) → cond b (some o) p ≡ some x → cond b (some o) q ≡ some y → x ≡ y
+    go true o p q h i j = cc
+    go false o p q h i j = h i j
+
+pub counted-once : {now : List ℕ} {p : Page} {start end from to slot : ℕ} {row whole now1 : List ℕ} {p1 : Page} {row1 whole1 now2 : List ℕ} {p2 : Page} {row2 whole2 : List ℕ}
+    → Counted now p start end from to slot row whole now1 p1 row1 whole1 → Counted now p start end from to slot row whole now2 p2 row2 whole2
+    → (sheetOf p1 row1 now1 ≡ sheetOf p2 row2 now2) × (whole1 ≡ whole2)
+counted-once {end = end} {from = from} {to = to} {slot = slot} c d =
+    (rolled-once (c .fuel) (d .fuel) end from to slot _ _ _ (c .rolls) (d .rolls), c .closes ∙ sym (d .closes))
 
 -- ---- the end
 

@@ -1,15 +1,17 @@
 -- The pages: rows that are written one after the other while the stretches of a window come. Assumes nothing.
-use Prim.Native.Nat.{ℕ, _+_, _-_, _*_, _≤_, _<_}
+use Prim.Native.Nat.{ℕ, zero, suc, _+_, _-_, _*_, _≤_, _<_, min, max}
 use mathlib.Core.Path.{_≡_}
 use mathlib.Core.Bool.{Bool, cond}
 use mathlib.Core.List.{List, [], _∷_, _++_, map}
-use lib.Dec.{eqb}
+use mathlib.Core.Option.{Option, none, some}
+use lib.Dec.{eqb, leb}
 use lib.ListN.{length, getD, set}
-use Rattle.wire.specs.Fields.{Put}
+use Rattle.wire.specs.Fields.{wrote, Put}
 use Rattle.zone.specs.Units.{dayNs}
 use Rattle.spans.specs.Spans.{Mark, phase, unknown, Span, Body}
 use Rattle.spans.specs.Totals.{isPhase, isUnknown, anyMark, total}
-use Rattle.answer.specs.Forms.{Form, encodeAll, manyTotals}
+use Rattle.answer.specs.Forms.{Form, day, encode, encodeAll, rowSize, manyTotals}
+use Rattle.answer.specs.Meaning.{totalsOf}
 use Rattle.pages.specs.Rows.{rowEnd, rowsFrom, rowsOf, dayForm, formsBy}
 use Rattle.pages.specs.declared.Page.{Page}
 
@@ -95,6 +97,31 @@ pub record Standing (all left : List (Span Mark)) (start end : ℕ) (room now : 
 
 -- ---- a stretch
 
+-- how much of the row from a to before b lies from `from` to before `to`
+abbrev pub partOf : ℕ → ℕ → ℕ → ℕ → ℕ
+partOf a b from to = min b to - max a from
+
+-- the open row from a to before b, its totals, and the bytes, where its record will stand at `at`
+pub record Sheet : Type 0 where
+  pub a : ℕ
+  pub b : ℕ
+  pub at : ℕ
+  pub row : List ℕ
+  pub bytes : List ℕ
+
+abbrev pub sheetOf : Page → List ℕ → List ℕ → Sheet
+sheetOf p row now = record { a = p .start .0; b = p .end .0; at = p .at; row = row; bytes = now }
+
+-- a stretch is counted in the open row; if the row ends before the stretch does it is written, and the stretch is counted in the next. In n rows at most
+unfoldable pub rolled : ℕ → ℕ → ℕ → ℕ → ℕ → Sheet → Option Sheet
+rolled zero end from to slot s = none
+rolled (suc n) end from to slot s =
+    let row = shifted (s .row) slot (partOf (s .a) (s .b) from to) in
+    let b = rowEnd end (s .b) in
+    let bytes = wrote (s .bytes) (s .at) (encode (day (totalsOf (s .a) (s .b) row))) in
+    cond (leb to (s .b)) (some (record { a = s .a; b = s .b; at = s .at; row = row; bytes = s .bytes }))
+    (rolled n end from to slot (record { a = s .b; b = b; at = s .at + rowSize; row = fresh (b - s .b); bytes = bytes }))
+
 pub record Coming (now : List ℕ) (p : Page) (start end from to slot : ℕ) (row whole : List ℕ) : Type 0 where
   pub all : List (Span Mark)
   pub left : List (Span Mark)
@@ -109,6 +136,9 @@ pub record Counted (now : List ℕ) (p : Page) (start end from to slot : ℕ) (r
       → Standing all left start end room now′ p′ row′ whole′
   pub reached : to ≤ p′ .end .0
   pub kept : length now′ ≡ length now
+  pub fuel : ℕ
+  pub rolls : rolled fuel end from to slot (sheetOf p row now) ≡ some (sheetOf p′ row′ now′)
+  pub closes : whole′ ≡ shifted whole slot (partOf start end from to)
 
 -- ---- the end
 

@@ -1,9 +1,9 @@
 // A row's totals, and how a stretch of the timeline is counted. A row's last total is what lies in no segment: the row begins with all of it
 // there, and each stretch takes its part away.
-ghost use Prim.Native.Nat.{_+_, _-_, _^_, _≤_, _<_, min, max};
+ghost use Prim.Native.Nat.{_+_, _-_, _^_, _≤_, _<_};
 ghost use mathlib.Core.Path.{_≡_};
 ghost use lib.ListN.{getD};
-ghost use Rattle.pages.specs.Pages.{shifted, fresh, Coming, Counted, Ending, Ended, First};
+ghost use Rattle.pages.specs.Pages.{partOf, shifted, fresh, Coming, Counted, Ending, Ended, First};
 use crate::Page;
 use crate::UNKNOWN;
 use crate::cuts::row_end;
@@ -19,7 +19,7 @@ const NOWHERE: usize = 9;
 
 // How much of the row from a to before b lies from `from` to before `to`.
 fn part(a: u64, b: u64, from: u64, to: u64) -> u64
-    ensures { λ r. ⌜ r ≡ min b to - max a from ⌝ }
+    ensures { λ r. ⌜ r ≡ partOf a b from to ⌝ }
 {
     let lo = later(a, from);
     let hi = earlier(b, to);
