@@ -1,4 +1,4 @@
--- The rule that governs a date of an accepted book is one of its listed rules, and so is that of every span of a date. Assumes nothing.
+-- The rule that governs a date is one of the listed rules, and so is that of every span of a date. Assumes nothing.
 use mathlib.Core.Path.{_≡_, refl, sym, ap, subst, _∙_}
 use mathlib.Core.Logic.{_⊎_, inl, inr}
 use mathlib.Core.Bool.{Bool, true, false, cond}
@@ -9,11 +9,12 @@ use native.Mathlib.Omega.{arith}
 use lib.Dec.{ltb}
 use lib.ListN.{length, getD}
 use Rattle.zone.specs.Zone.{Zone}
+use Rattle.records.specs.Layout.{ruleKind}
 use Rattle.records.specs.Limits.{base}
 use Rattle.records.specs.Records.{Point, Rule, ruleAt}
 use Rattle.records.specs.Book.{refusal, records}
 use Rattle.venue.specs.Opening.{rulesOf, rulePlaces}
-use Rattle.venue.specs.Reading.{EachPoint, GoodRule, ListedRule}
+use Rattle.venue.specs.Reading.{EachPoint, GoodRule, ListedRule, ListedRules}
 use Rattle.venue.proofs.Laws.{good-rule, places-listed, rules-listed}
 use Rattle.spans.specs.Spans.{Span, keep, In}
 use Rattle.spans.specs.Timeline.{Edge, Venue, raised, cut, ofPoints, ofRule, spans}
@@ -23,7 +24,7 @@ use Rattle.day.proofs.Governs.{governs}
 
 -- ---- the rule of a date
 
--- where a rule stands in an accepted book
+-- where a rule stands in a book
 pub record Source (s : List ℕ) (r : Rule) : Type 0 where
   pub place : ℕ
   pub listed : ListedRule s place
@@ -34,11 +35,16 @@ from-places f [] i r e = absurd (let z : _≡_ {A = ℕ} 0 1 = cc in omega arith
 from-places f (p ∷ ps) zero r e = (omega arith, cc)
 from-places f (p ∷ ps) (suc i) r e = let on = from-places f ps i r e in (omega arith, on .1)
 
+-- of rules at listed places, and of an accepted book's
+pub governing-source : (s rules : List ℕ) → ListedRules s rules → (d : ℕ) (r : Rule) → governing (map (ruleAt s) rules) d ≡ some r → Source s r
+governing-source s rules listed d r g =
+    let k = governs (λ (x : Rule). x) (map (ruleAt s) rules) d r g in
+    let on = from-places (ruleAt s) rules (k .place) r (k .listed) in
+    record { place = getD rules (k .place) 0; listed = listed (k .place) (on .0); is = on .1 }
+
 pub governing-listed : (s : List ℕ) → refusal base s ≡ 0 → (d : ℕ) (r : Rule) → governing (rulesOf (records s)) d ≡ some r → Source s r
 governing-listed s e d r g =
-    let k = governs (λ (x : Rule). x) (rulesOf (records s)) d r g in
-    let on = from-places (ruleAt s) (rulePlaces s) (k .place) r (ap (λ (rs : List Rule). nth rs (k .place)) (rules-listed s e) ∙ k .listed) in
-    record { place = getD (rulePlaces s) (k .place) 0; listed = places-listed 3 s e (k .place) (on .0); is = on .1 }
+    governing-source s (rulePlaces s) (places-listed ruleKind s e) d r (ap (λ (rs : List Rule). governing rs d) (rules-listed s e) ∙ g)
 
 pub source-good : (s : List ℕ) (r : Rule) → Source s r → GoodRule r
 source-good s r k = subst GoodRule (k .is) (good-rule s (k .place) (k .listed))

@@ -20,7 +20,8 @@ use Rattle.rows.specs.Rows as Rows
 use Rattle.timeline.specs.Asking.{windowAnswer}
 use Rattle.point.specs.Asking.{pointAnswer}
 use Rattle.point.specs.Said.{pointSaid}
-use Rattle.plain.specs.Books.{Names, Between, Plain, Agreed}
+use Rattle.plain.specs.Books.{Plain}
+use Rattle.agreement.specs.Books.{Names, Between, Agreed}
 use Rattle.board.specs.Cells.{columnsOf, cellInstant, glyph, markerColumn, gridOf, cellsAnswer}
 use Rattle.board.proofs.Columns.{columns-some, floor-less}
 use Rattle.board.proofs.Drawn.{cell-at}

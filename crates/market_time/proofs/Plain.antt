@@ -20,8 +20,9 @@ use Rattle.timeline_rows.proofs.Seen.{row-look}
 use Rattle.point.specs.Asking.{pointNumber, pointAnswer}
 use Rattle.point.specs.Said.{pointSaid}
 use Rattle.point.proofs.Said.{point-said}
-use Rattle.plain.specs.Books.{Names, Between, window, Plain, Agreed}
-use Rattle.plain.proofs.Books.{in-range, plain-agrees}
+use Rattle.plain.specs.Books.{window, Plain}
+use Rattle.agreement.specs.Books.{Names, Between, Agreed}
+use Rattle.agreement.proofs.Books.{in-range, plain-agrees}
 use Rattle.zone.specs.Units.{instantOf}
 use Rattle.book_query.specs.Judging.{windowNumber}
 use Rattle.rows.specs.Rows.{shownIn}

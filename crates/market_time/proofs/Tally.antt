@@ -31,8 +31,9 @@ use Rattle.timeline.specs.Asking.{segmentsBy}
 use Rattle.point.specs.Asking.{pointAnswer}
 use Rattle.point.specs.Said.{pointMark, pointSaid}
 use Rattle.point.proofs.Said.{point-said}
-use Rattle.plain.specs.Books.{Names, window, Plain}
-use Rattle.plain.proofs.Tallied.{phase-instants, outside-instants, hole-instants}
+use Rattle.plain.specs.Books.{window, Plain}
+use Rattle.agreement.specs.Books.{Names}
+use Rattle.agreement.proofs.Tallied.{phase-instants, outside-instants, hole-instants}
 use Rattle.pages.specs.Rows.{rowEnd, rowsFrom, rowsOf, rowTotals, dayForm, formsBy}
 use Rattle.tally.specs.Tallying.{tallyAnswer, tooLong, tallyNumber}
 use Rattle.book_query.specs.Judging.{windowNumber}

@@ -29,7 +29,7 @@ use Rattle.plain.specs.Deciding.{Decides, rises, inOrder, plainDate, rea
 
 -- ---- tests
 
-no-test : {P : Type 0} → false ≡ true → P
+pub no-test : {P : Type 0} → false ≡ true → P
 no-test e = absurd (let z : _≡_ {A = ℕ} 0 1 = cc in omega arith)
 
 both : {P Q : Type 0} (p q : Bool) → Decides p P → Decides q Q → Decides (p && q) (P × Q)
@@ -47,6 +47,10 @@ pub decides-once : {P : Type 0} (a b : Bool) → Decides a P → Decides b P →
 decides-once true b d e = sym (e .no (d .yes refl))
 decides-once false true d e = d .no (e .yes refl)
 decides-once false false d e = refl
+
+pub decides-not : {P : Type 0} (b : Bool) → Decides b P → (P → ⊥) → b ≡ false
+decides-not true d n = absurd (n (d .yes refl))
+decides-not false d n = refl
 
 -- ---- a date
 
@@ -79,12 +83,12 @@ module _ (z : Zone) (g : ℕ → Option Rule) where
   -- ---- a run of dates
 
   -- of the n dates from d on the last one's midnight is not before the end, and all to it are plain
-  record Reached (end n d : ℕ) : Type 0 where
-    last : ℕ
-    from : d ≤ last
-    few : last < d + n
-    run : (i : ℕ) → d ≤ i → i ≤ last → PlainDate v i
-    closes : end ≤ midnight v last
+  pub record Reached (end n d : ℕ) : Type 0 where
+    pub last : ℕ
+    pub from : d ≤ last
+    pub few : last < d + n
+    pub run : (i : ℕ) → d ≤ i → i ≤ last → PlainDate v i
+    pub closes : end ≤ midnight v last
 
   reaches-yes : (end n d : ℕ) → reaches z g end n d ≡ true → Reached end n d
   unfolding reaches
@@ -122,6 +126,9 @@ module _ (z : Zone) (g : ℕ → Option Rule) where
       go (no l) (no q) next =
           let e : r .last ≡ d = omega (arith, r .from) in
           absurd (l (subst (λ (i : ℕ). end ≤ midnight v i) e (r .closes)))
+
+  pub reach-decides : (end n d : ℕ) → Decides (reaches z g end n d) (Reached end n d)
+  reach-decides end n d = record { yes = reaches-yes end n d; no = reaches-no end n d }
 
   -- ---- a window
 

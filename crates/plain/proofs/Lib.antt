@@ -1,10 +1,4 @@
-pub mod Dates
-pub mod Agreeing
-pub mod Totals
-pub mod Example
-pub mod Books
-pub mod Tallied
-pub mod Steady
 pub mod Deciding
 pub mod Looking
 pub mod Table
+pub mod Steady

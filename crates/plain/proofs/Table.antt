@@ -2,17 +2,15 @@
 use mathlib.Core.Path.{_≡_, sym, _∙_}
 use mathlib.Core.Bool.{Bool, true, false}
 use mathlib.Core.List.{List, [], _∷_, map}
-use Prim.Native.Nat.{ℕ}
-use native.Mathlib.Omega.{arith}
 use borrow.Author.Tests.{ltb-true}
 use Rattle.zone.specs.Units.{instantOf}
 use Rattle.plain.specs.Deciding.{Decides}
 use Rattle.plain.specs.Examples.{Case, table, bytesOf, startOf, endOf, told, answers, forward, forwards, Says, Each, Holds}
-use Rattle.plain.proofs.Deciding.{book-decides}
+use Rattle.plain.proofs.Deciding.{no-test, book-decides}
 
 says : {P : Type 0} (b q : Bool) → Decides b P → b ≡ q → Says q P
 says b true d e = d .yes e
-says b false d e = λ p. let f : false ≡ true = sym e ∙ d .no p in absurd (let z : _≡_ {A = ℕ} 0 1 = cc in omega arith)
+says b false d e = λ p. no-test (sym e ∙ d .no p)
 
 each : (cs : List Case) → map told cs ≡ map (λ (c : Case). c .plain) cs → map forward cs ≡ map (λ (c : Case). true) cs → Each Holds cs
 each [] e f = tt

@@ -15,6 +15,7 @@ use Rattle.records.specs.Book.{records}
 use Rattle.venue.specs.Opening.{coverageOf}
 use Rattle.spans.specs.Timeline.{Part}
 use Rattle.day.specs.Days.{valuesOf}
+use Rattle.plain.specs.Plain.{longestRun}
 use Rattle.plain.specs.Books.{window}
 
 -- the test is true exactly when P holds
@@ -53,7 +54,7 @@ reaches z g end (suc n) d = plainDate z g d && (leb end (takenAt z d 0) || reach
 
 -- the most dates that are looked at: a run of 3,660, and the one behind it
 abbrev pub mostDates : ℕ
-mostDates = 3661
+mostDates = suc longestRun
 
 -- the window, if its start reads d
 abbrev pub plainFrom : Zone → (ℕ → Option Rule) → Part → ℕ → Bool

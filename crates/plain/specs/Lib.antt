@@ -1,4 +1,5 @@
 pub mod Plain
 pub mod Books
 pub mod Deciding
+pub mod Private
 pub mod Examples

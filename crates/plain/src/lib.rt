@@ -1,5 +1,4 @@
-// Plain dates and plain windows: whether a window is plain, and the theorem that over a plain window the timeline and the point answers
-// agree at every instant. The theorem is in specs/ and proofs/.
+// Plain dates and plain windows: what they are is in specs/, and whether a window is plain is decided here.
 
 mod date;
 mod window;

@@ -1,7 +1,7 @@
 // Whether a window is plain.
 ghost use mathlib.Core.Path.{_≡_};
 ghost use mathlib.Core.List.{map};
-ghost use Prim.Native.Nat.{_<_, _^_};
+ghost use Prim.Native.Nat.{suc, _<_, _^_};
 ghost use Rattle.zone.specs.Zone.{zoneOf};
 ghost use Rattle.zone.specs.Answers.{Valid};
 ghost use Rattle.records.specs.Records.{ruleAt};
@@ -10,17 +10,48 @@ ghost use Rattle.day.specs.Governing.{governing};
 ghost use Rattle.day.specs.Days.{venueBy};
 ghost use Rattle.plain.specs.Plain.{PlainWindow};
 ghost use Rattle.plain.specs.Deciding.{Decides, mostDates, reaches as Deciding·reaches};
+ghost use Rattle.plain.specs.Private.{PlainUntil};
 use crate::date::is_plain_date;
 use calendar::Day;
 use zone::Instant;
 use zone::Uncertainty;
 use zone::day_at;
+use zone::steady_until;
 use zone::to_utc_at;
 
-// A run of 3,660 dates, and the one behind it.
-const MOST_DATES: u32 = 3_661;
+// The date before a run of 3,660 dates, those, and the one behind it.
+const MOST_DATES: u32 = 3_662;
 
-// Whether dates from d on are plain until one's midnight is not before the end, that one too.
+// The date before which dates from d on are plain, as far as one look tells, and not past the last. Where the clock is steady all are,
+// whatever their rules.
+fn plain_until(
+    book: &[u8],
+    first: u32,
+    ats: &[u64],
+    offsets: &[u32],
+    rules: &[u32],
+    d: Day,
+    last: Day,
+) -> Day
+    requires { ⌜ Valid first (now ats) (now offsets) × ListedRules (now book) (now rules) × (d .0 < last .0) ⌝ }
+    ensures { λ r. ⌜ PlainUntil (venueBy (zoneOf first (now (ats .entry)) (now (offsets .entry)))
+        (governing (map (ruleAt (now (book .entry))) (now (rules .entry))))) (d .0) (last .0) (r .0) ⌝ }
+{
+    let until = steady_until(ats, d);
+    if last.0 < until.0 {
+        return last;
+    }
+    if d.0 < until.0 {
+        return until;
+    }
+    if is_plain_date(book, first, ats, offsets, rules, d) {
+        return Day(d.0 + 1);
+    }
+    d
+}
+
+// Whether dates from d on are plain until one's midnight is not before the end, that one too. The midnights of plain dates do not fall, so
+// of the dates that one look tells of only the last one's is asked.
 fn reaches(
     book: &[u8],
     first: u32,
@@ -32,25 +63,26 @@ fn reaches(
 ) -> bool
     requires { ⌜ Valid first (now ats) (now offsets) × ListedRules (now book) (now rules) × (d .0 < 2 ^ 17) ⌝ }
     ensures { λ r. ⌜ r ≡ Deciding·reaches (zoneOf first (now (ats .entry)) (now (offsets .entry)))
-        (governing (map (ruleAt (now (book .entry))) (now (rules .entry)))) (end .0) mostDates (d .0) ⌝ }
+        (governing (map (ruleAt (now (book .entry))) (now (rules .entry)))) (end .0) (suc mostDates) (d .0) ⌝ }
 {
-    let mut n: u32 = 0;
-    while n < MOST_DATES {
-        let date = Day(d.0 + n);
-        if !is_plain_date(book, first, ats, offsets, rules, date) {
+    let last = Day(d.0 + MOST_DATES);
+    let mut date = d;
+    while date.0 < last.0 {
+        let next = plain_until(book, first, ats, offsets, rules, date, last);
+        if next.0 <= date.0 {
             return false;
         }
-        let opening = to_utc_at(first, ats, offsets, date, 0, Uncertainty::Exact);
+        let opening = to_utc_at(first, ats, offsets, Day(next.0 - 1), 0, Uncertainty::Exact);
         let at = opening.at;
         if end.0 <= at.0 {
             return true;
         }
-        n += 1;
+        date = next;
     }
     false
 }
 
-// If the window is plain, the date that its start reads is of the run, and so are those from there to its end.
+// If the window is plain, the date that its start reads is of the run, and so are those from there to its end; the one before it is plain.
 pub fn is_plain(
     book: &[u8],
     first: u32,
@@ -74,8 +106,5 @@ pub fn is_plain(
     if start.0 < from.0 {
         return false;
     }
-    if !is_plain_date(book, first, ats, offsets, rules, Day(day - 1)) {
-        return false;
-    }
-    reaches(book, first, ats, offsets, rules, date, end)
+    reaches(book, first, ats, offsets, rules, Day(day - 1), end)
 }

@@ -21,7 +21,7 @@ use Rattle.zone.specs.declared.Uncertainty.the-variants.{Exact, PublishedGranul
 use Rattle.zone.proofs.Readings.{before-near, after-near, taken-near}
 use Rattle.zone.proofs.Domain.{taken-in}
 use Rattle.wire.specs.Fields.{field}
-use Rattle.records.specs.Layout.{number, integer, ruleLabel, ruleEvidence, ruleDerived, eventCode, eventEvidence, nanoseconds, text}
+use Rattle.records.specs.Layout.{eventKind, number, integer, ruleLabel, ruleEvidence, ruleDerived, eventCode, eventEvidence, nanoseconds, text}
 use Rattle.records.specs.Limits.{base}
 use Rattle.records.specs.Records.{Published, Point, Rule, Event, Coverage, ruleAt, eventAt}
 use Rattle.records.specs.Book.{refusal, records}
@@ -446,5 +446,5 @@ module _ (s : List ℕ) (b : Bytes s) where
       (λ d r i. let l = governing-listed s e d r i in subst RuleFits (l .is) (rule-fits (l .place) (l .listed))) (eventsOf rs)
       (subst (Every EventFits) (events-listed s e) (events-fit (eventPlaces s)))
       (λ from to h. subst (λ (l : List Event). length (found (v .zone) l from to) ≤ mostInSpan) (events-listed s e)
-      (few s o (atsOf rs) (offsetsOf rs) (eventPlaces s) ok (places-listed 4 s e) (omega (arith, n)) from to h))
+      (few s o (atsOf rs) (offsetsOf rs) (eventPlaces s) ok (places-listed eventKind s e) (omega (arith, n)) from to h))
       (v .coverage) w

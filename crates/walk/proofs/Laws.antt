@@ -15,11 +15,10 @@ use Rattle.spans.specs.Spans.{Span, keep, clip, reach, Within}
 use Rattle.spans.specs.Timeline.{Edge, Venue, midnight, raised, cut, ofPoints, ofRule, spans, walk}
 use Rattle.spans.proofs.Lists.{ordered, reach-within}
 use Rattle.spans.proofs.Walking.{here-within, walk-none}
-use Rattle.venue.proofs.Laws.{good-rule}
 use Rattle.day.specs.Days.{Held}
-use Rattle.day.specs.Governing.{governing, nth}
+use Rattle.day.specs.Governing.{governing}
 use Rattle.venue.specs.Reading.{ListedRules}
-use Rattle.day.proofs.Governs.{governs}
+use Rattle.day.proofs.Listed.{governing-source, source-good}
 use Rattle.walk.specs.AsWritten.{ifAny, asWritten}
 use Rattle.walk.specs.Walking.{rest, Begun}
 use Rattle.walk.specs.declared.Walk.{Walk}
@@ -126,11 +125,4 @@ rest-length {v = v} {turns = turns} {cursor = cursor} few b hi =
 -- the rules of a book have few points
 pub rules-few : (s : List ℕ) (rules : List ℕ) → ListedRules s rules → (d : ℕ) (r : Rule) → governing (map (ruleAt s) rules) d ≡ some r
     → length (r .points) ≤ base .points
-rules-few s rules listed d r e =
-    let g = governs (λ (x : Rule). x) (map (ruleAt s) rules) d r e in
-    go rules (g .place) listed (g .listed)
-  where
-    go : (ps : List ℕ) (i : ℕ) → ListedRules s ps → nth (map (ruleAt s) ps) i ≡ some r → length (r .points) ≤ base .points
-    go [] i l q = let n : _≡_ {A = ℕ} 0 1 = cc in absurd (omega arith)
-    go (p ∷ ps) zero l q = let same : ruleAt s p ≡ r = cc in subst (λ (x : Rule). length (x .points) ≤ base .points) same (good-rule s p (l 0 (omega arith)) .few)
-    go (p ∷ ps) (suc i) l q = go ps i (λ j h. l (suc j) (omega arith)) q
+rules-few s rules listed d r e = source-good s r (governing-source s rules listed d r e) .few

@@ -7,3 +7,4 @@ pub mod Validity
 pub mod Throughout
 pub mod Ahead
 pub mod Shifts
+pub mod Until

@@ -26,13 +26,13 @@ use Rattle.zone.proofs.Readings.{resolve-steady}
 -- ---- the test, as the code makes it: k transitions have passed at a
 
 -- a transition at or before a, one after b, and one between
-past : (a b x : ℕ) (rest : Bool) → x ≤ a → (not (ltb a x && leb x b) && rest) ≡ rest
+pub past : (a b x : ℕ) (rest : Bool) → x ≤ a → (not (ltb a x && leb x b) && rest) ≡ rest
 past a b x rest h = ap (λ (c : Bool). not (c && leb x b) && rest) (le-ltb a x h)
 
 beyond : (a b x : ℕ) (rest : Bool) → a < x → b < x → (not (ltb a x && leb x b) && rest) ≡ rest
 beyond a b x rest h i = simp (lt-ltb a x h, lt-leb x b i)
 
-between : (a b x : ℕ) (rest : Bool) → a < x → x ≤ b → (not (ltb a x && leb x b) && rest) ≡ false
+pub between : (a b x : ℕ) (rest : Bool) → a < x → x ≤ b → (not (ltb a x && leb x b) && rest) ≡ false
 between a b x rest h i = simp (lt-ltb a x h, le-leb x b i)
 
 next-later : (b x : ℕ) (ats : List ℕ) → After x ats → b < x → b < 2 ^ 64 → b < getD ats 0 (2 ^ 64)
@@ -91,7 +91,7 @@ steady-by z from to o g h e i = simp (le-leb firstSteady from g, le-leb to lastS
 -- ---- what it means
 
 -- from a to b the offset stays
-stays : (o a b t : ℕ) (cs : List Change) → noneWithin a b cs ≡ true → a ≤ t → t ≤ b → lastOffset o cs t ≡ lastOffset o cs a
+pub stays : (o a b t : ℕ) (cs : List Change) → noneWithin a b cs ≡ true → a ≤ t → t ≤ b → lastOffset o cs t ≡ lastOffset o cs a
 unfolding noneWithin lastOffset
 stays o a b t [] e h i = refl
 stays o a b t (c ∷ cs) e h i = go (λ p r. stays p a b t cs r h i) (decLe (c .at) a) (decLe (c .at) b)

@@ -30,7 +30,7 @@ const LAST_READING: u64 = (LAST_DAY as u64 + 7) * DAY_NS;
 const LAST_READING_DAY: u64 = LAST_DAY as u64 + 6;
 
 // The number from `low` to `high` that is nearest to x.
-fn nearest(low: u64, x: u64, high: u64) -> u64
+pub(crate) fn nearest(low: u64, x: u64, high: u64) -> u64
     requires { ⌜ low ≤ high ⌝ }
     ensures { λ r. ⌜ r ≡ max low (min x high) ⌝ }
 {

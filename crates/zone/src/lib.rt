@@ -26,6 +26,7 @@ pub use steady::Steady;
 pub use steady::steady_day;
 pub use steady::steady_midnight;
 pub use steady::steady_offset;
+pub use steady::steady_until;
 pub use valid::is_valid;
 pub use wide::widest;
 

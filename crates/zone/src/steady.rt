@@ -1,18 +1,21 @@
 // Where no transition is near: one offset for readings and conversions alike.
 ghost use mathlib.Core.Path.{_≡_};
 ghost use Rattle.zone.specs.Zone.{zoneOf};
-ghost use Rattle.zone.specs.Answers.{Valid};
-ghost use Rattle.zone.specs.Steady.{steadyOf, dayBy, midnightBy, OnWall, DayOnWall};
+ghost use Rattle.zone.specs.Answers.{Spaced, Valid};
+ghost use Rattle.zone.specs.Steady.{steadyOf, dayBy, midnightBy, OnWall, DayOnWall, steadyUntil};
 use crate::DAY_NS;
 use crate::FIRST_TRANSITION;
 use crate::Instant;
 use crate::LAST_TRANSITION;
 use crate::MOST_NS;
 use crate::SECOND_NS;
+use crate::convert::nearest;
 use crate::search::next_at;
 use crate::search::offset_after;
 use crate::search::passed;
 use calendar::Day;
+use calendar::FIRST_DAY;
+use calendar::LAST_DAY;
 
 // The offset, in seconds plus 57,600, where no transition is near.
 pub enum Steady {
@@ -55,4 +58,21 @@ pub fn steady_midnight(offset: u32, d: Day) -> Instant
     ensures { λ r. ⌜ r .0 ≡ midnightBy offset (d .0) ⌝ }
 {
     Instant(d.0 as u64 * DAY_NS + MOST_NS - offset as u64 * SECOND_NS)
+}
+
+// The first date from d on near which the clock changes: on the UTC day of its number, on the one before or on the next. Where there is
+// none, the date behind the calendar; outside the calendar, d itself.
+pub fn steady_until(ats: &[u64], d: Day) -> Day
+    requires { ⌜ Spaced (now ats) ⌝ }
+    ensures { λ r. ⌜ r .0 ≡ steadyUntil (now (ats .entry)) (d .0) ⌝ }
+{
+    if d.0 < FIRST_DAY {
+        return d;
+    }
+    if LAST_DAY < d.0 {
+        return d;
+    }
+    let day = d.0 as u64;
+    let at = next_at(ats, passed(ats, (day - 1) * DAY_NS));
+    Day(nearest(day, (at - 1) / DAY_NS - 1, LAST_DAY as u64 + 1) as u32)
 }

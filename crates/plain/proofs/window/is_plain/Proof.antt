@@ -1,4 +1,4 @@
-use Rattle.plain.proofs.Looking.{no-yesterday, early-start, yesterday-not, as-run}
+use Rattle.plain.proofs.Looking.{no-yesterday, early-start, as-run}
 use Rattle.day.specs.Governing.{governing}
 use Rattle.records.specs.Records.{Rule, ruleAt}
 use Rattle.zone.proofs.Domain.{date-small}
@@ -10,7 +10,6 @@ use mathlib.Core.Option.{Option}
 use native.Mathlib.Omega.{arith}
 use mathlib.Core.List.{map}
 use mathlib.Core.Path.{_≡_, ap}
-use borrow.Author.Tests.{not-true, not-false}
 use borrow.Author.Needs.{needs}
 use Rattle.plain.proofs.window.is_plain.Statement.{statement}
 use Rattle.plain.proofs.window.is_plain.Tie as tie
@@ -41,29 +40,20 @@ returns-2 c =
     let day = at-to-utc-at .before .before in
     early-start (zoneIn day) (rulesIn day) _ _ _ (entry day .pre .2) (day .day-at .ensures) (begins at-to-utc-at) (c .if2 .taken)
 
-returns-3 : tie.Need-returns-3
-returns-3 c =
-    let at-is-plain-date = c .before in
-    let day = at-is-plain-date .before .before .before .before .before .before .before in
-    yesterday-not (zoneIn day) (rulesIn day) _ _ _ (entry day .pre .2) (day .day-at .ensures) (at-is-plain-date .is-plain-date .ensures)
-    (not-true (at-is-plain-date .is-plain-date .result) (c .if3 .taken))
-
 reaches-requires : tie.Need-reaches-requires
 reaches-requires c κs =
-    let day = c .before .before .before .before .before .before .before .before in
+    let day = c .before .before .before .before .before .before in
     let pre = entry day .pre in
     (pre .0, pre .1, omega (arith, day .day-at .ensures, date-small _ _ _ (entry day .args .start .0) (pre .0)))
 
-returns-4 : tie.Need-returns-4
-returns-4 c =
-    let at-if3 = c .before in
-    let at-is-plain-date = at-if3 .before in
-    let at-if2 = at-is-plain-date .before in
+returns-3 : tie.Need-returns-3
+returns-3 c =
+    let at-if2 = c .before in
     let at-to-utc-at = at-if2 .before .before .before .before in
     let at-if1 = at-to-utc-at .before in
     let day = at-if1 .before in
-    as-run (zoneIn day) (rulesIn day) _ _ _ (entry day .pre .2) (day .day-at .ensures) (begins at-to-utc-at) (at-is-plain-date .is-plain-date .ensures)
-    (at-if1 .if1 .left) (at-if2 .if2 .left) (not-false (at-is-plain-date .is-plain-date .result) (at-if3 .if3 .left)) (c .reaches .ensures)
+    as-run (zoneIn day) (rulesIn day) _ _ _ (entry day .pre .2) (day .day-at .ensures) (begins at-to-utc-at) (at-if1 .if1 .left) (at-if2 .if2 .left)
+    (c .reaches .ensures)
 
 pub is-plain-spec : {M : Type 1} → statement M
 is-plain-spec =
@@ -74,7 +64,5 @@ is-plain-spec =
     (λ c κs. search needs)
     returns-2
     (λ c. search needs)
-    (λ c κs. search needs)
-    returns-3
     reaches-requires
-    returns-4)
+    returns-3)

@@ -19,10 +19,11 @@ use Rattle.tell.specs.Shown.{Shown}
 use Rattle.timeline.specs.Segments.{markOf, segments, showing, timelineOf}
 use Rattle.point.specs.Said.{pointMark}
 use Rattle.zone.specs.Units.{instantOf}
 use Rattle.plain.specs.Plain.{PlainWindow}
-use Rattle.plain.specs.Books.{Names, window, PlainFor, Plain}
-use Rattle.plain.proofs.Totals.{phase-total, outside-total, hole-total}
-use Rattle.plain.proofs.Books.{accepted, window-shown, point-shown}
+use Rattle.plain.specs.Books.{window, PlainFor, Plain}
+use Rattle.agreement.specs.Books.{Names}
+use Rattle.agreement.proofs.Totals.{phase-total, outside-total, hole-total}
+use Rattle.agreement.proofs.Books.{accepted, window-shown, point-shown}
 
 -- the row of n instants from `from` on, inside the window
 module _ (s : List ℕ) (c : Coverage) (named : Names s c) (start end : ℤ) (passes : windowRefusal start end ≡ 0) (plain : Plain s start end)

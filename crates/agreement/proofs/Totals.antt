@@ -14,8 +14,9 @@ use Rattle.spans.specs.Timeline.{Venue, Part, inside, pointAt, timeline}
 use Rattle.spans.specs.Totals.{isPhase, isUnknown, anyMark, total, count, shows, free}
 use Rattle.spans.proofs.Shape.{shape}
 use Rattle.spans.proofs.Totals.{same-count, total-count, others}
-use Rattle.plain.specs.Plain.{PlainWindow, Accepted, Covered, Agrees}
-use Rattle.plain.proofs.Agreeing.{plain}
+use Rattle.plain.specs.Plain.{PlainWindow}
+use Rattle.agreement.specs.Agreeing.{Accepted, Covered, Agrees}
+use Rattle.agreement.proofs.Agreeing.{plain}
 
 -- what agrees shows the same phases
 same-phase : {A : Type 0} (v : Venue A) (c : Part) (t p : ℕ) (l o : Option Mark) → Agrees v c t l o → shows (isPhase p) l ≡ shows (isPhase p) o

@@ -30,9 +30,11 @@ use Rattle.timeline.specs.Segments.{markOf, segments, showing, timelineOf}
 use Rattle.timeline.proofs.Parts.{merges}
 use Rattle.point.specs.Said.{pointMark}
 use Rattle.zone.specs.Units.{instantOf}
-use Rattle.plain.specs.Plain.{PlainDate, PlainWindow, Accepted, Covered, Agrees}
-use Rattle.plain.specs.Books.{Names, Between, window, PlainFor, Plain, Agreed}
-use Rattle.plain.proofs.Agreeing.{plain}
+use Rattle.plain.specs.Plain.{PlainDate, PlainWindow}
+use Rattle.agreement.specs.Agreeing.{Accepted, Covered, Agrees}
+use Rattle.plain.specs.Books.{window, PlainFor, Plain}
+use Rattle.agreement.specs.Books.{Names, Between, Agreed}
+use Rattle.agreement.proofs.Agreeing.{plain}
 
 -- ---- every accepted book but that of zero bytes names a venue
 

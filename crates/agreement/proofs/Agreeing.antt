@@ -13,8 +13,9 @@ use Rattle.spans.proofs.Walking.{Fits, walk-look, date-of}
 use Rattle.spans.proofs.Dates.{governed, ungoverned}
 use Rattle.spans.proofs.Shape.{early, covered, late, unchanged}
 use Rattle.spans.proofs.Points.{point-out, point-in}
-use Rattle.plain.specs.Plain.{PlainDate, PlainWindow, Accepted, Covered, Agrees}
-use Rattle.plain.proofs.Dates.{fits}
+use Rattle.plain.specs.Plain.{PlainDate, PlainWindow}
+use Rattle.agreement.specs.Agreeing.{Accepted, Covered, Agrees}
+use Rattle.agreement.proofs.Dates.{fits}
 
 -- the three cases
 module _ {A : Type 0} (v : Venue A) (c : Part) (t : ℕ) (l p : Option Mark) where

@@ -10,8 +10,9 @@ use Rattle.records.specs.Records.{Rule}
 use Rattle.spans.specs.Spans.{unknown, look}
 use Rattle.spans.specs.Timeline.{midnight, Starts, timeline, pointAt}
 use Rattle.spans.specs.Examples.{B, r, v, cover, window}
-use Rattle.plain.specs.Plain.{PlainDate, PlainWindow, InOrder, Accepted, Agrees}
-use Rattle.plain.proofs.Agreeing.{plain}
+use Rattle.plain.specs.Plain.{PlainDate, PlainWindow, InOrder}
+use Rattle.agreement.specs.Agreeing.{Accepted, Agrees}
+use Rattle.agreement.proofs.Agreeing.{plain}
 
 date : (d : ℕ) → PlainDate v d
 date d = record { rising = omega arith; points = go (eqb d 13); reading = λ t a b. omega arith }
