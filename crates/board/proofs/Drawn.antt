@@ -2,7 +2,7 @@
 use mathlib.Core.Path.{_≡_, refl, sym, ap, ap₂, _∙_, subst}
 use mathlib.Core.Bool.{Bool, true, false, not, _&&_}
 use mathlib.Core.List.{List, [], _∷_, _++_}
-use mathlib.Core.Option.{some}
+use mathlib.Core.Option.{none, some}
 use Prim.Native.Nat.{ℕ, zero, suc, _+_, _-_, _^_, _≤_, _<_}
 use native.Mathlib.Nat.{zero-add, add-zero, suc-add}
 use native.Mathlib.Decide.{decLt}
@@ -229,7 +229,7 @@ module _ (g : Grid) (o : Good g) (s old : List ℕ) (room : g .columns + 2 ≤ l
 
   module _ (new : List ℕ) (at c : ℕ) (d : Drawing g s old new at c) where
     -- nothing more stands in the row: the other cells are blank
-    module _ (none-left : segmentsAt s at ≡ []) (newer : List ℕ) (r : ℕ) (f : Filled g c (2 ^ 64 - 1) 32 new newer r) where
+    module _ (none-left : segmentsAt s at ≡ []) (newer : List ℕ) (r : ℕ) (f : Filled g c (2 ^ 64 - 1) (glyph none) new newer r) where
       pub all-filled : r ≡ g .columns
       all-filled = go (decLt r (g .columns))
         where
@@ -241,7 +241,7 @@ module _ (g : Grid) (o : Good g) (s old : List ℕ) (room : g .columns + 2 ≤ l
               absurd (omega arith)
           go (no h) = let i = f .inside in omega arith
 
-      blank : (i : ℕ) → c ≤ i → i < r → glyph (shownAt (segments s) (cellInstant g i)) ≡ 32
+      blank : (i : ℕ) → c ≤ i → i < r → glyph (shownAt (segments s) (cellInstant g i)) ≡ glyph none
       unfolding look
       blank i a b =
           let h = f .inside in
@@ -251,13 +251,13 @@ module _ (g : Grid) (o : Good g) (s old : List ℕ) (room : g .columns + 2 ≤ l
       draw-blank =
           let z = all-filled in
           record {
-            painted = paint-more g (segments s) old room new c (d .painted) (2 ^ 64 - 1) 32 newer r f blank;
+            painted = paint-more g (segments s) old room new c (d .painted) (2 ^ 64 - 1) (glyph none) newer r f blank;
             ahead = record { rest = λ i a b. absurd (omega arith); low = d .ahead .low; order = d .ahead .order; on = d .ahead .on };
           }
 
     -- a segment: blank up to it, then its glyph
     module _ (x : Segment) (is : x ≡ segmentOf s at) (t : Segmented s at) (mid newer : List ℕ) (held r : ℕ) (byte : ℕ)
-        (f : Filled g c (x .from .0) 32 new mid held) (e : byte ≡ glyph (some (markOf (x .shows))))
+        (f : Filled g c (x .from .0) (glyph none) new mid held) (e : byte ≡ glyph (some (markOf (x .shows))))
         (h : Filled g held (x .to .0) byte mid newer r) where
       abbrev span : Span Rows.Seen
       span = spanOf s x
@@ -271,7 +271,7 @@ module _ (g : Grid) (o : Good g) (s old : List ℕ) (room : g .columns + 2 ≤ l
       by : (i : ℕ) → c ≤ i → i < g .columns → shownAt (segments s) (cellInstant g i) ≡ shownAt (span ∷ rest) (cellInstant g i)
       by i a b = d .ahead .rest i a b ∙ ap (λ (ss : List (Span Rows.Seen)). shownAt ss (cellInstant g i)) (row-split t is)
 
-      early : (i : ℕ) → c ≤ i → i < held → glyph (shownAt (segments s) (cellInstant g i)) ≡ 32
+      early : (i : ℕ) → c ≤ i → i < held → glyph (shownAt (segments s) (cellInstant g i)) ≡ glyph none
       early i a b =
           let k = f .inside in
           let l = f .before i a b in
@@ -297,7 +297,7 @@ module _ (g : Grid) (o : Good g) (s old : List ℕ) (room : g .columns + 2 ≤ l
       pub draw-on : Drawing g s old newer (endOf x) r
       draw-on =
           record {
-            painted = paint-more g (segments s) old room mid held (paint-more g (segments s) old room new c (d .painted) (x .from .0) 32 mid held f early)
+            painted = paint-more g (segments s) old room mid held (paint-more g (segments s) old room new c (d .painted) (x .from .0) (glyph none) mid held f early)
                 (x .to .0) byte newer r h inner;
             ahead = record { rest = late; low = x .to .0; order = order .2; on = row-on t is };
           }

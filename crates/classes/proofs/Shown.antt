@@ -86,7 +86,7 @@ pub record Along (allowed : Bool) (s : List ℕ) (start t at least n : ℕ) (sho
 module _ (allowed : Bool) (s : List ℕ) (start t : ℕ) where
   pub along-start : start ≤ length s → Along allowed s start t start 0 0 NotShown
   along-start h =
-      let z : start + 35 * 0 ≡ start = omega arith in
+      let z : start + eventSize * 0 ≡ start = omega arith in
       record { going = record { same = refl; inside = h }; same = rw z; next = rw z; after = omega arith }
 
   module _ {at least n : ℕ} {shown : Class} (a : Along allowed s start t at least n shown) where

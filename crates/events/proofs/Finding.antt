@@ -176,11 +176,11 @@ module _ (z : Zone) (from to : ℕ) (es : List Event) (a b : ℕ) where
   unfolding onDates
   date-in t d n = sought-append t (onDate z from to d es) (onDates z from to es (suc d) n)
 
-  pub dates-start : {s : Search} → s .count ≤ 256 → Spanning s s a
+  pub dates-start : {s : Search} → s .count ≤ mostOnDate → Spanning s s a
   dates-start n = record { low = omega arith; high = omega arith; same = refl; few = omega arith }
 
   pub date-one : {s t r : Search} {date : ℕ} → Spanning s t date → date < b → r ≡ sought t (onDate z from to (date + 1) es)
-      → r .count ≤ t .count + 256 → Spanning s r (date + 1)
+      → r .count ≤ t .count + mostOnDate → Spanning s r (date + 1)
   date-one {s} {t} {r} {date} p h q n =
       let i : suc date ≡ date + 1 = omega arith in
       let k : b - date ≡ suc (b - (date + 1)) = omega arith in

@@ -151,7 +151,7 @@ module _ (book events : List ℕ) (o from to a b : ℕ) where
       ∙ ap (λ (m : ℕ). keptDate book from to date (midnightBy o date) events ++ keptDates book events o from to m (suc b - (date + 1))) j
 
   pub date-one : {x y x′ y′ x″ y″ : List ℕ} {n r date : ℕ} (m : ℕ) → Dating x y x′ y′ n date → date ≤ b → m ≡ midnightBy o date
-      → Keeps x′ y′ n (keptDate book from to date m events) x″ y″ r → r ≤ n + 256 → Dating x y x″ y″ r (date + 1)
+      → Keeps x′ y′ n (keptDate book from to date m events) x″ y″ r → r ≤ n + mostOnDate → Dating x y x″ y″ r (date + 1)
   date-one {date = date} m p h e k less =
       let l = keeps-long k in
       record {

@@ -26,24 +26,24 @@ use Rattle.rows.specs.Rows.{framed, goodRow, segments}
 use Rattle.timeline.specs.Asking.{windowAnswer}
 use Rattle.timeline_rows.proofs.Row.{row-good}
 use Rattle.book_query.specs.Judging.{windowNumber}
-use Rattle.listing.specs.Listing.{book, start, end, roomNumber, headLine, rowText, listingNumber, listing}
+use Rattle.listing.specs.Listing.{most, textBytes, queryKind, queryLength, querySize, book, start, end, roomNumber, headLine, rowText, listingNumber, listing}
 use Rattle.listing.specs.Private.{Puts, windowText}
 
 -- ---- the text of an input
 
 module _ (s : List ℕ) where
-  pub too-long : 65536 < length s → listing s ≡ headLine 1 0
+  pub too-long : most < length s → listing s ≡ headLine 1 0
   unfolding listing listingNumber
-  too-long h = simp (lt-ltb 65536 (length s) h)
+  too-long h = simp (lt-ltb most (length s) h)
 
-  module _ (h : length s ≤ 65536) where
-    pub no-query : framed 33 18 s 0 ≡ false → listing s ≡ headLine 2 0
+  module _ (h : length s ≤ most) where
+    pub no-query : framed queryKind queryLength s 0 ≡ false → listing s ≡ headLine 2 0
     unfolding listing listingNumber
-    no-query e = simp (le-ltb 65536 (length s) h, e)
+    no-query e = simp (le-ltb most (length s) h, e)
 
-    pub is-query : framed 33 18 s 0 ≡ true → listing s ≡ windowText (book s) (start s) (end s)
+    pub is-query : framed queryKind queryLength s 0 ≡ true → listing s ≡ windowText (book s) (start s) (end s)
     unfolding listing listingNumber
-    is-query e = simp (le-ltb 65536 (length s) h, e)
+    is-query e = simp (le-ltb most (length s) h, e)
 
 -- ---- the text of a book and a window, by the reply
 
@@ -55,29 +55,29 @@ both-pass s m n e = go (eqb (refusal base s) 0) refl e
     go true i q = (eqb-true (refusal base s) 0 i, q)
     go false i q = absurd (eqb-false (refusal base s) 0 i q)
 
-room-passes : (n : ℕ) (a : List ℕ) → roomNumber n a ≡ 0 → (n ≡ 0) × (length a ≤ 65536)
-room-passes n a e = go (eqb n 0) (ltb 65536 (length a)) refl refl e
+room-passes : (n : ℕ) (a : List ℕ) → roomNumber n a ≡ 0 → (n ≡ 0) × (length a ≤ most)
+room-passes n a e = go (eqb n 0) (ltb most (length a)) refl refl e
   where
-    go : (t u : Bool) → eqb n 0 ≡ t → ltb 65536 (length a) ≡ u → cond t (cond u 16 0) n ≡ 0 → (n ≡ 0) × (length a ≤ 65536)
+    go : (t u : Bool) → eqb n 0 ≡ t → ltb most (length a) ≡ u → cond t (cond u 16 0) n ≡ 0 → (n ≡ 0) × (length a ≤ most)
     go true true i j q = absurd (omega (arith, q))
-    go true false i j q = (eqb-true n 0 i, ltb-false 65536 (length a) j)
+    go true false i j q = (eqb-true n 0 i, ltb-false most (length a) j)
     go false u i j q = absurd (eqb-false n 0 i q)
 
 -- the room is 65,536 bytes long
-verdict-room : (n : ℕ) (a room : List ℕ) → length room ≡ 65536 → verdict n a room ≡ roomNumber n a
+verdict-room : (n : ℕ) (a room : List ℕ) → length room ≡ most → verdict n a room ≡ roomNumber n a
 unfolding verdict
 verdict-room n a room l = rw l
 
 -- what an answered window leaves
 pub record Answered (s : List ℕ) (m n : ℤ) (left : List ℕ) (r : Reply) : Type 0 where
-  pub short : r .length ≤ 65536
+  pub short : r .length ≤ most
   pub inside : r .length ≤ length left
   pub long : length (take (r .length) left) ≡ r .length
   pub good : Bytes s → goodRow (take (r .length) left) ≡ true
   pub text : windowText s m n ≡ rowText (segments (take (r .length) left))
 
 module _ (s : List ℕ) (m n : ℤ) {room left : List ℕ} {r : Reply} (w : Lent (windowNumber s m n) (windowAnswer s m n) room left r)
-    (l : length room ≡ 65536) where
+    (l : length room ≡ most) where
   says : roomNumber (windowNumber s m n) (windowAnswer s m n) ≡ r .number
   says = sym (w .says ∙ verdict-room (windowNumber s m n) (windowAnswer s m n) room l)
 
@@ -113,7 +113,7 @@ puts-inside {old} {new} {v} {r} p =
     let z : length new ≡ length (v ++ drop (0 + length v) old) = ap length (p .same) in
     omega (arith, p .behind, p .kept, z, length-append v (drop (0 + length v) old))
 
-pub told : {old new v w : List ℕ} {r : ℕ} → w ≡ v → Puts old 0 v new r → length old ≡ 131136 → Puts old 0 w new r × (r ≤ 131136)
+pub told : {old new v w : List ℕ} {r : ℕ} → w ≡ v → Puts old 0 v new r → length old ≡ textBytes → Puts old 0 w new r × (r ≤ textBytes)
 told e p l = (puts-text e p, omega (arith, puts-inside p, l))
 
 -- a window's edge, as it is read
@@ -123,8 +123,8 @@ edge p x z e f =
     ap (λ (y : ℤ). toZ w64 (ofZ w64 y)) is ∙ toZ-ofZ w64 (signed w64 x) (meant-fits w64 (turned w64 x) (mod-lt _ (omega arith)))
 
 -- what stands behind the first record, to the end
-pub tail-book : (s : List ℕ) → take (length s - 20) (drop 20 s) ≡ book s
-tail-book s = take-all (length s - 20) (drop 20 s) (omega (arith, length-drop 20 s))
+pub tail-book : (s : List ℕ) → take (length s - querySize) (drop querySize s) ≡ book s
+tail-book s = take-all (length s - querySize) (drop querySize s) (omega (arith, length-drop querySize s))
 
 pub same-window : (b c : List ℕ) (m m′ n n′ : ℤ) → c ≡ b → m′ ≡ m → n′ ≡ n → windowText b m n ≡ windowText c m′ n′
 same-window b c m m′ n n′ d e f = ap (λ (x : List ℕ). windowText x m n) (sym d) ∙ ap₂ (windowText c) (sym e) (sym f)

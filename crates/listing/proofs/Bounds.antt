@@ -16,7 +16,7 @@ use Rattle.rows.proofs.Turns.{phase-holds, gap-holds, mark-holds, Goes, ends, p
 use Rattle.rows.proofs.Places.{segments-end, segments-phase, segments-gap, segments-mark}
 use Rattle.answer.specs.Forms.{phaseSize, eventSize}
 use Rattle.listing.specs.Text.{decimal, instant, fields}
-use Rattle.listing.specs.Listing.{headLine, segmentLine, eventLine, eventLines, segmentLines, allLines, rowText}
+use Rattle.listing.specs.Listing.{most, textBytes, headLine, segmentLine, eventLine, eventLines, segmentLines, allLines, rowText}
 use Rattle.listing.specs.Private.{Fits}
 use Rattle.listing.proofs.Numbers.{decimal-64, instant-short}
 
@@ -96,16 +96,16 @@ module _ (s : List ℕ) (b : Bytes s) where
           rw (segments-gap s at (omega (arith, t .whole)) (t .kind)) (omega (arith, more .0, one, a), omega (arith, more .1))
       go (anew e p f) on = let t = mark-holds s at p in rw (segments-mark s at (omega (arith, t .0)) (t .1)) (omega (arith, t .0), omega (arith, t .0))
 
-  pub row-short : goodRow s ≡ true → length s ≤ 65536 → length (rowText (segments s)) ≤ 131136
+  pub row-short : goodRow s ≡ true → length s ≤ most → length (rowText (segments s)) ≤ textBytes
   unfolding goodRow
   row-short e h =
       let w = lines-short false (enough s) 0 0 e in
       let f = head-short 0 (length (segments s)) (omega arith) (omega (arith, w .1)) in
       omega (arith, w .0, f, length-append (headLine 0 (length (segments s))) (allLines (segments s)))
 
-  pub row-fits : (out : List ℕ) → goodRow s ≡ true → length s ≤ 65536 → 131136 ≤ length out → Fits 0 (rowText (segments s)) out
+  pub row-fits : (out : List ℕ) → goodRow s ≡ true → length s ≤ most → textBytes ≤ length out → Fits 0 (rowText (segments s)) out
   row-fits out e h r = record { inside = omega (arith, row-short e h) }
 
 -- a line alone
-pub head-fits : (n count : ℕ) (out : List ℕ) → n < 2 ^ 64 → count < 2 ^ 64 → 131136 ≤ length out → Fits 0 (headLine n count) out
+pub head-fits : (n count : ℕ) (out : List ℕ) → n < 2 ^ 64 → count < 2 ^ 64 → textBytes ≤ length out → Fits 0 (headLine n count) out
 head-fits n count out a b h = record { inside = omega (arith, head-short n count a b) }

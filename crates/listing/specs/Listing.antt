@@ -1,12 +1,12 @@
 -- The listing program: document 01, Checked examples, Book A. Assumes nothing.
-use Prim.Native.Nat.{ℕ}
+use Prim.Native.Nat.{ℕ, _+_, _*_}
 use mathlib.Core.Bool.{cond}
 use mathlib.Core.List.{List, [], _∷_, _++_}
 use lib.Dec.{ltb, eqb}
 use lib.IntN.{ℤ}
 use lib.ListN.{length, drop}
 use mir.Syntax.{w64}
-use Rattle.records.specs.Layout.{Place, kind, then, integer}
+use Rattle.records.specs.Layout.{Place, size, kind, then, integer}
 use Rattle.spans.specs.Spans.{Mark, phase, unknown, Span}
 use Rattle.rows.specs.Rows.{Event, Seen, framed, segments}
 use Rattle.timeline.specs.Asking.{windowAnswer}
@@ -14,6 +14,15 @@ use Rattle.book_query.specs.Judging.{windowNumber}
 use Rattle.listing.specs.Text.{decimal, instant, line}
 
 -- ---- the input: kind 33 (L 18: start, end i64 ns), then a book
+
+abbrev pub queryKind : ℕ
+queryKind = 33
+
+abbrev pub queryLength : ℕ
+queryLength = 18
+
+abbrev pub querySize : ℕ
+querySize = size .width + queryLength
 
 abbrev pub startPlace : Place
 startPlace = then kind 8
@@ -28,13 +37,17 @@ abbrev pub end : List ℕ → ℤ
 end s = integer w64 endPlace s 0
 
 abbrev pub book : List ℕ → List ℕ
-book s = drop 20 s
+book s = drop querySize s
 
 -- ---- its number and its answer
 
 -- the most bytes of the input, and of the answer
 abbrev pub most : ℕ
 most = 65536
+
+-- as many as the text has at most: two for each of the answer's, and the first line
+abbrev pub textBytes : ℕ
+textBytes = 2 * most + 64
 
 abbrev pub answer : List ℕ → List ℕ
 answer s = windowAnswer (book s) (start s) (end s)
@@ -45,7 +58,7 @@ roomNumber n a = cond (eqb n 0) (cond (ltb most (length a)) 16 0) n
 
 -- 65,536 bytes in all or 1; a bad first record: 2; then the book's number, and the window's
 unfoldable pub listingNumber : List ℕ → ℕ
-listingNumber s = cond (ltb most (length s)) 1 (cond (framed 33 18 s 0) (roomNumber (windowNumber (book s) (start s) (end s)) (answer s)) 2)
+listingNumber s = cond (ltb most (length s)) 1 (cond (framed queryKind queryLength s 0) (roomNumber (windowNumber (book s) (start s) (end s)) (answer s)) 2)
 
 -- ---- the text
 

@@ -5,11 +5,13 @@ ghost use mathlib.Core.Bool.{true};
 ghost use lib.ListN.{length};
 ghost use Rattle.wire.specs.Fields.{Put};
 ghost use Rattle.rows.specs.Rows.{framed, goodRow, segments};
-ghost use Rattle.listing.specs.Listing.{listing, rowText};
+ghost use Rattle.listing.specs.Listing.{most, textBytes, queryKind, queryLength, listing, rowText};
 ghost use Rattle.listing.specs.Private.{Puts, windowText};
 use crate::lines::count;
 use crate::lines::put_all;
 use crate::lines::put_head;
+use records::HEAD;
+use records::KIND;
 use timeline::window_answer;
 use wire::get2;
 use wire::signed8;
@@ -19,31 +21,35 @@ use wire::unplace;
 const MOST_BYTES: usize = 65_536;
 
 // Two bytes for each of the answer's, and the first line.
-pub const TEXT_BYTES: usize = 131_136;
+pub const TEXT_BYTES: usize = 2 * MOST_BYTES + 64;
 
-const QUERY_BYTES: usize = 20;
+const QUERY_KIND: u16 = 33;
 
-const QUERY_START: usize = 4;
+const QUERY_START: usize = HEAD;
 
-const QUERY_END: usize = 12;
+const QUERY_END: usize = QUERY_START + 8;
+
+const QUERY_BYTES: usize = QUERY_END + 8;
+
+const QUERY_LENGTH: u16 = (QUERY_BYTES - KIND) as u16;
 
 const TOO_LONG: u32 = 1;
 
 const NO_QUERY: u32 = 2;
 
-// Whether the input begins with a record of kind 33.
+// Whether the input begins with a query.
 fn is_query(input: &[u8]) -> bool
-    ensures { λ r. ⌜ r ≡ framed 33 18 (now (input .entry)) 0 ⌝ }
+    ensures { λ r. ⌜ r ≡ framed queryKind queryLength (now (input .entry)) 0 ⌝ }
 {
     if input.len() < QUERY_BYTES {
         return false;
     }
-    (get2(input, 0) == 18) & (get2(input, 2) == 33)
+    (get2(input, 0) == QUERY_LENGTH) & (get2(input, KIND) == QUERY_KIND)
 }
 
 // A row's first line and its segments'.
 fn put_row(answer: &[u8], out: &mut [u8]) -> usize
-    requires { ⌜ (goodRow (now answer) ≡ true) × (length (now answer) ≤ 65536) × (131136 ≤ length (now out)) ⌝ }
+    requires { ⌜ (goodRow (now answer) ≡ true) × (length (now answer) ≤ most) × (textBytes ≤ length (now out)) ⌝ }
     ensures { λ r. ⌜ Puts (now (out .entry)) 0 (rowText (segments (now (answer .entry)))) (now (out .exit)) r ⌝ }
 {
     let next = put_head(out, 0, 0, count(answer));
@@ -52,7 +58,7 @@ fn put_row(answer: &[u8], out: &mut [u8]) -> usize
 
 // Of a book and a window.
 fn put_window(book: &[u8], start: i64, end: i64, out: &mut [u8]) -> usize
-    requires { ⌜ 131136 ≤ length (now out) ⌝ }
+    requires { ⌜ textBytes ≤ length (now out) ⌝ }
     ensures { λ r. ⌜ Puts (now (out .entry)) 0 (windowText (now (book .entry)) start end) (now (out .exit)) r ⌝ }
 {
     let mut room = [0u8; MOST_BYTES];
@@ -67,7 +73,7 @@ fn put_window(book: &[u8], start: i64, end: i64, out: &mut [u8]) -> usize
 
 // The text of any input, at the front of the lent bytes; it answers the text's length.
 pub fn list_text(input: &[u8], text: &mut [u8; TEXT_BYTES]) -> usize
-    ensures { λ r. ⌜ Put (now (text .entry)) 0 (listing (now (input .entry))) (length (listing (now (input .entry)))) (now (text .exit)) r × (r ≤ 131136) ⌝ }
+    ensures { λ r. ⌜ Put (now (text .entry)) 0 (listing (now (input .entry))) (length (listing (now (input .entry)))) (now (text .exit)) r × (r ≤ textBytes) ⌝ }
 {
     if MOST_BYTES < input.len() {
         return put_head(text, 0, TOO_LONG, 0);

@@ -1,7 +1,7 @@
 // The kinds of records, and where their fields stand, counted from a record's first byte: each behind the one before it.
 ghost use mathlib.Core.Path.{_≡_};
 ghost use Prim.Native.Nat.{_≤_};
-ghost use Rattle.records.specs.Layout.{isRule, isDated, tag, count, time, step};
+ghost use Rattle.records.specs.Layout.{ruleKind, isRule, isDated, tag, count, time, step};
 
 pub const COVERAGE: u16 = 1;
 
@@ -84,28 +84,28 @@ pub fn is_dated(kind: u16) -> bool
 
 // The uncertainty: tag, nanoseconds, text.
 pub fn tag_place(kind: u16) -> usize
-    ensures { λ r. ⌜ (r ≡ tag kind .from) × (r ≤ 20) ⌝ }
+    ensures { λ r. ⌜ (r ≡ tag kind .from) × (r ≤ tag ruleKind .from) ⌝ }
 {
     if is_rule(kind) { RULE_TAG } else { EVENT_TAG }
 }
 
 // The number n of points or times.
 pub fn count_place(kind: u16) -> usize
-    ensures { λ r. ⌜ (r ≡ count kind .from) × (r ≤ 31) ⌝ }
+    ensures { λ r. ⌜ (r ≡ count kind .from) × (r ≤ count ruleKind .from) ⌝ }
 {
     tag_place(kind) + COUNT
 }
 
 // The first of them.
 pub fn time_place(kind: u16) -> usize
-    ensures { λ r. ⌜ (r ≡ time kind .from) × (r ≤ 32) ⌝ }
+    ensures { λ r. ⌜ (r ≡ time kind .from) × (r ≤ time ruleKind .from) ⌝ }
 {
     tag_place(kind) + TIME
 }
 
 // From one to the next.
 pub fn step_of(kind: u16) -> usize
-    ensures { λ r. ⌜ (r ≡ step kind) × (r ≤ 9) ⌝ }
+    ensures { λ r. ⌜ (r ≡ step kind) × (r ≤ step ruleKind) ⌝ }
 {
     if is_rule(kind) { POINT_SIZE } else { TIME_SIZE }
 }

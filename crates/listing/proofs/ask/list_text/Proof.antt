@@ -4,7 +4,7 @@ use lib.ListN.{length}
 use mathlib.Core.Bool.{true}
 use mathlib.Core.Path.{_≡_, sym, _∙_}
 use Rattle.listing.proofs.Asking.{too-long, no-query, is-query, told, edge, tail-book, same-window}
-use Rattle.listing.specs.Listing.{book, start, end}
+use Rattle.listing.specs.Listing.{textBytes, queryKind, queryLength, querySize, book, start, end}
 use borrow.Author.Tests.{not-true, not-false}
 use Rattle.listing.proofs.Bounds.{head-fits}
 use Rattle.rows.proofs.Turns.{framed-holds}
@@ -17,15 +17,15 @@ abbrev entry : tie.After-is-query → tie.Start
 entry c = c .before .before .before
 
 -- it does
-queried : (c : tie.Else2) → framed 33 18 (entry (c .before) .args .input .now) 0 ≡ true
+queried : (c : tie.Else2) → framed queryKind queryLength (entry (c .before) .args .input .now) 0 ≡ true
 queried c = sym (c .before .is-query .ensures) ∙ not-false _ (c .if2 .left)
 
 -- and holds it
-holds : (c : tie.Else2) → 20 ≤ length (entry (c .before) .args .input .now)
-holds c = omega (arith, framed-holds (entry (c .before) .args .input .now) 0 33 18 (queried c) .0)
+holds : (c : tie.Else2) → querySize ≤ length (entry (c .before) .args .input .now)
+holds c = omega (arith, framed-holds (entry (c .before) .args .input .now) 0 queryKind queryLength (queried c) .0)
 
 -- the text's room
-long : (c : tie.After-put-window-arg2) → length (entry (c .before .before .before .before .before .before .before) .args .text .now) ≡ 131136
+long : (c : tie.After-put-window-arg2) → length (entry (c .before .before .before .before .before .before .before) .args .text .now) ≡ textBytes
 long c = omega arith
 
 returns : tie.Need-returns

@@ -1,3 +1,4 @@
+use Rattle.listing.specs.Listing.{most}
 use Prim.Native.Nat.{ℕ}
 use Rattle.book_query.specs.Judging.{windowNumber}
 use Rattle.listing.proofs.Asking.{Answered, refused-text, answered, puts-text}
@@ -21,7 +22,7 @@ entry c = c .before .before .before .before
 -- what is lent to the window: 65,536 bytes
 lent : (c : tie.After-window-answer)
     → let args = entry c .args in
-    Lent (windowNumber (args .book .now) (args .start) (args .end)) (windowAnswer (args .book .now) (args .start) (args .end)) (replicate 65536 0)
+    Lent (windowNumber (args .book .now) (args .start) (args .end)) (windowAnswer (args .book .now) (args .start) (args .end)) (replicate most 0)
     (c .window-answer .last .1 .1 .1 .0) (c .window-answer .result)
 lent c =
     let args = entry c .args in
@@ -34,7 +35,7 @@ reply-at : (c : tie.Else1)
     → let at-window-answer = c .before .before in
     let args = entry at-window-answer .args in
     Answered (args .book .now) (args .start) (args .end) (at-window-answer .window-answer .last .1 .1 .1 .0) (at-window-answer .window-answer .result)
-reply-at c = answered _ _ _ (lent (c .before .before)) (length-replicate {A = ℕ} 65536 0) (c .if1 .left)
+reply-at c = answered _ _ _ (lent (c .before .before)) (length-replicate {A = ℕ} most 0) (c .if1 .left)
 
 put-head-requires : tie.Need-put-head-requires
 put-head-requires c κs = head-fits _ 0 _ (omega arith) (omega arith) (entry (c .before .before .before) .pre)
@@ -45,7 +46,7 @@ returns c =
     let at-if1 = at-put-head .before .before in
     let at-window-answer = at-if1 .before .before in
     let args = entry at-window-answer .args in
-    puts-text (refused-text (args .book .now) (args .start) (args .end) (lent at-window-answer) (length-replicate {A = ℕ} 65536 0) (at-if1 .if1 .taken))
+    puts-text (refused-text (args .book .now) (args .start) (args .end) (lent at-window-answer) (length-replicate {A = ℕ} most 0) (at-if1 .if1 .taken))
     (at-put-head .put-head .ensures)
 
 put-row-requires : tie.Need-put-row-requires
