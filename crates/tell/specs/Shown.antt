@@ -1,12 +1,15 @@
 -- A span of a date as records: kind 16 with its kinds 18 behind it. Assumes nothing.
-use Prim.Native.Nat.{ℕ, _*_}
+use Prim.Native.Nat.{ℕ, _*_, _≤_}
 use mathlib.Core.Path.{_≡_}
 use mathlib.Core.List.{List, _∷_, map}
 use lib.ListN.{length}
-use Rattle.wire.specs.Fields.{Put}
-use Rattle.zone.specs.Zone.{Zone}
+use Rattle.wire.specs.Fields.{Inside, Put}
+use Rattle.zone.specs.Zone.{Zone, zoneOf}
+use Rattle.zone.specs.Answers.{Valid}
 use Rattle.zone.specs.declared.Uncertainty.{Uncertainty}
-use Rattle.records.specs.Records.{Event}
+use Rattle.records.specs.Limits.{base}
+use Rattle.records.specs.Records.{Event, eventAt}
+use Rattle.venue.specs.Reading.{ListedEvents}
 use Rattle.day.specs.Days.{Held, whole as wholeOf}
 use Rattle.events.specs.Happenings.{found, eventsIn}
 use Rattle.events.specs.declared.Occurrence.{Occurrence}
@@ -57,3 +60,9 @@ shownForms from to x = phase (headForm from to (x .held) (x .whole) (length (x .
 pub record Trails (z : Zone) (es : List Event) (from to : ℕ) (old : List ℕ) (at : ℕ) (new : List ℕ) (r : Trail) : Type 0 where
   pub put : Put old at (encodeAll (map eventForm (eventsIn z es from to))) (eventSize * length (found z es from to)) new (r .behind)
   pub count : r .count ≡ length (found z es from to)
+
+-- what writing them requires: a zone, events at the places, no more than a book may have, and room
+abbrev pub EventsFit : List ℕ → ℕ → List ℕ → List ℕ → List ℕ → ℕ → ℕ → List ℕ → ℕ → Type 0
+EventsFit book first ats offsets events from to out at =
+    Valid first ats offsets × ListedEvents book events × (length events ≤ base .events)
+    × Inside at (eventSize * length (found (zoneOf first ats offsets) (map (eventAt book) events) from to)) out

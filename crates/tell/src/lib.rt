@@ -5,15 +5,13 @@ ghost use mathlib.Core.List.{map};
 ghost use lib.ListN.{length, getD};
 ghost use Rattle.wire.specs.Fields.{Inside, Put};
 ghost use Rattle.zone.specs.Zone.{zoneOf};
-ghost use Rattle.zone.specs.Answers.{Valid};
 ghost use Rattle.records.specs.Records.{eventAt};
-ghost use Rattle.venue.specs.Reading.{ListedRule, ListedEvent, ListedEvents};
+ghost use Rattle.venue.specs.Reading.{ListedRule, ListedEvent};
 ghost use Rattle.day.specs.Meaning.{heldBy};
-ghost use Rattle.events.specs.Happenings.{found, byInstant};
+ghost use Rattle.events.specs.Happenings.{byInstant};
 ghost use Rattle.events.specs.Keeping.{listed, keptOf};
 ghost use Rattle.answer.specs.Forms.{encodeAll, eventSize};
-ghost use Rattle.records.specs.Limits.{base};
-ghost use Rattle.tell.specs.Shown.{headOf, eventForm, Trails};
+ghost use Rattle.tell.specs.Shown.{headOf, eventForm, Trails, EventsFit};
 use answer::Phase;
 use answer::put_event;
 use day::Segment;
@@ -115,8 +113,7 @@ fn put_sought(
     out: &mut [u8],
     at: usize,
 ) -> Trail
-    requires { ⌜ Valid first (now ats) (now offsets) × ListedEvents (now book) (now events) × (length (now events) ≤ base .events)
-        × Inside at (eventSize * length (found (zoneOf first (now ats) (now offsets)) (map (eventAt (now book)) (now events)) (from .0) (to .0))) (now out) ⌝ }
+    requires { ⌜ EventsFit (now book) first (now ats) (now offsets) (now events) (from .0) (to .0) (now out) at ⌝ }
     ensures { λ r. ⌜ Trails (zoneOf first (now (ats .entry)) (now (offsets .entry))) (map (eventAt (now (book .entry))) (now (events .entry)))
         (from .0) (to .0) (now (out .entry)) at (now (out .exit)) r ⌝ }
 {
@@ -149,8 +146,8 @@ fn put_sought(
     }
 }
 
-// The events of a span, one after the other, from `at` on.
-pub fn put_events(
+// The events of a span, in one pass where the clock is steady and all have room.
+fn put_some(
     book: &[u8],
     first: u32,
     ats: &[u64],
@@ -161,17 +158,10 @@ pub fn put_events(
     out: &mut [u8],
     at: usize,
 ) -> Trail
-    requires { ⌜ Valid first (now ats) (now offsets) × ListedEvents (now book) (now events) × (length (now events) ≤ base .events)
-        × Inside at (eventSize * length (found (zoneOf first (now ats) (now offsets)) (map (eventAt (now book)) (now events)) (from .0) (to .0))) (now out) ⌝ }
+    requires { ⌜ EventsFit (now book) first (now ats) (now offsets) (now events) (from .0) (to .0) (now out) at ⌝ }
     ensures { λ r. ⌜ Trails (zoneOf first (now (ats .entry)) (now (offsets .entry))) (map (eventAt (now (book .entry))) (now (events .entry)))
         (from .0) (to .0) (now (out .entry)) at (now (out .exit)) r ⌝ }
 {
-    if events.len() == 0 {
-        return Trail {
-            behind: at,
-            count: 0,
-        };
-    }
     let mut when = [0u64; MOST_KEPT];
     let mut which = [0u32; MOST_KEPT];
     match collect(
@@ -196,4 +186,30 @@ pub fn put_events(
             }
         }
     }
+}
+
+// The events of a span, one after the other, from `at` on. A book without events is answered where it is asked: this is small enough to
+// stand in its caller.
+pub fn put_events(
+    book: &[u8],
+    first: u32,
+    ats: &[u64],
+    offsets: &[u32],
+    events: &[u32],
+    from: Instant,
+    to: Instant,
+    out: &mut [u8],
+    at: usize,
+) -> Trail
+    requires { ⌜ EventsFit (now book) first (now ats) (now offsets) (now events) (from .0) (to .0) (now out) at ⌝ }
+    ensures { λ r. ⌜ Trails (zoneOf first (now (ats .entry)) (now (offsets .entry))) (map (eventAt (now (book .entry))) (now (events .entry)))
+        (from .0) (to .0) (now (out .entry)) at (now (out .exit)) r ⌝ }
+{
+    if events.len() == 0 {
+        return Trail {
+            behind: at,
+            count: 0,
+        };
+    }
+    put_some(book, first, ats, offsets, events, from, to, out, at)
 }

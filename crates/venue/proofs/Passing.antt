@@ -13,7 +13,7 @@ use mir.Syntax.{w32, w64}
 use Rattle.wire.specs.Fields.{wrote}
 use Rattle.wire.specs.Signs.{half, meant, turned}
 use Rattle.wire.proofs.Signs.{since-meant}
-use Rattle.zone.specs.Units.{secondsInstant}
+use Rattle.zone.specs.Units.{secondsInstant, SecondsFit}
 use Rattle.records.specs.Layout.{number, transitionInstant, transitionOffset, transitionKind, ruleKind, eventKind}
 use Rattle.wire.proofs.Writing.{wrote-one, wrote-nothing}
 use Rattle.records.specs.Limits.{base}
@@ -267,8 +267,8 @@ ranged s at before f e p =
 
 -- and so are kept as they are meant
 module _ {s : List ℕ} {at : ℕ} (r : Ranged s at) where
-  pub instant-fits : {p : ℕ} → p ≡ turned w64 (number transitionInstant s at) → secondsInstant (meant w64 p) < 2 ^ 64
-  instant-fits {p} e = omega (arith, second-meant p, r .at-high)
+  pub instant-fits : {p : ℕ} → p ≡ turned w64 (number transitionInstant s at) → SecondsFit p
+  instant-fits {p} e = (omega (arith, e, r .at-low), omega (arith, second-meant p, r .at-high))
 
   pub instant-kept : {p a : ℕ} → p ≡ turned w64 (number transitionInstant s at) → a ≡ secondsInstant (meant w64 p)
       → a ≡ secondsInstant (transitionAt s at .at)

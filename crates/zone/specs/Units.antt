@@ -1,8 +1,9 @@
 -- Instants and readings as numbers: nanoseconds since 1899-12-25T00:00, of UTC or of a venue's wall. Assumes nothing.
-use Prim.Native.Nat.{ℕ, _+_, _-_, _*_, _/_, _%_, min, max}
+use Prim.Native.Nat.{ℕ, _+_, _-_, _*_, _/_, _%_, _^_, _≤_, _<_, min, max}
 use lib.IntN.{ℤ, subℕ}
+use mir.Syntax.{w64}
 use Rattle.calendar.specs.Answers.{firstDay, lastDay, zeroDay}
-use Rattle.wire.specs.Signs.{since}
+use Rattle.wire.specs.Signs.{since, meant, half}
 
 abbrev pub secondNs : ℕ
 secondNs = 1000000000
@@ -20,6 +21,10 @@ instantOf n = since (zeroDay * dayNs) n
 
 abbrev pub secondsInstant : ℤ → ℕ
 secondsInstant n = since (zeroDay * 86400) n * secondNs
+
+-- a placed number of seconds whose instant is not before 1899-12-25, and fits 64 bits
+abbrev pub SecondsFit : ℕ → Type 0
+SecondsFit p = (half w64 ≤ p + zeroDay * 86400) × (secondsInstant (meant w64 p) < 2 ^ 64)
 
 -- an offset is kept in seconds and never negative: plus 57,600, the most that it can be
 abbrev pub mostOffset : ℕ

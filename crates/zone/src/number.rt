@@ -1,10 +1,9 @@
 // Instants and document 01's numbers of them, nanoseconds since 1970, signed. Only here is one made of the other.
 ghost use mathlib.Core.Path.{_≡_};
-ghost use Prim.Native.Nat.{_^_, _<_};
 ghost use mir.Syntax.{w64};
 ghost use mir.Val.{ofZ};
 ghost use Rattle.wire.specs.Signs.{meant};
-ghost use Rattle.zone.specs.Units.{instantNumber, instantOf, secondsInstant};
+ghost use Rattle.zone.specs.Units.{instantNumber, instantOf, secondsInstant, SecondsFit};
 use crate::Instant;
 use crate::SECOND_NS;
 use wire::HALF8;
@@ -36,14 +35,10 @@ pub fn instant_of(p: Placed) -> Instant
 
 // The instant that a number of seconds means.
 pub fn instant_of_seconds(p: Placed) -> Instant
-    requires { ⌜ secondsInstant (meant w64 (p .0)) < 2 ^ 64 ⌝ }
+    requires { ⌜ SecondsFit (p .0) ⌝ }
     ensures { λ r. ⌜ r .0 ≡ secondsInstant (meant w64 (p .0)) ⌝ }
 {
-    let placed = p.0;
-    if placed < SECOND_ZERO {
-        return Instant(0);
-    }
-    Instant((placed - SECOND_ZERO) * SECOND_NS)
+    Instant((p.0 - SECOND_ZERO) * SECOND_NS)
 }
 
 // The number of an instant, as the bits of a two's-complement field.
