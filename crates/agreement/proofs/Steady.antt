@@ -9,13 +9,13 @@ use borrow.Author.Tests.{leb-true}
 use lib.IntN.{ℤ, pos, negsuc}
 use lib.Signed.{leZ}
 use Rattle.wire.proofs.Signs.{and-true}
-use Rattle.calendar.specs.Answers.{firstDay, lastDay}
-use Rattle.zone.specs.Units.{secondNs, dayNs, mostOffset, mostNs, offsetNs, readingDay, instantOf, secondsInstant}
+use Rattle.calendar.specs.Answers.{firstDay, lastDay, zeroDay}
+use Rattle.zone.specs.Units.{dayNs, mostOffset, mostNs, offsetNs, readingDay, instantOf, secondsInstant}
 use Rattle.zone.specs.Zone.{Zone, zoneOf, changesOf, lastOffset, offsetAt}
 use Rattle.zone.specs.Answers.{Valid}
 use Rattle.zone.proofs.Offsets.{offset-most}
 use Rattle.records.specs.Records.{Coverage, Transition, Rule}
-use Rattle.records.specs.Book.{inside, instants, records}
+use Rattle.records.specs.Book.{inside, instants, records, instantsBefore, instantsAfter}
 use Rattle.venue.specs.Opening.{offsetOf, transitionsOf, rulesOf, atsOf, offsetsOf}
 use Rattle.venue.specs.Reading.{GoodRule}
 use Rattle.venue.proofs.Laws.{zone-valid}
@@ -25,7 +25,7 @@ use Rattle.day.specs.Days.{Held, valuesOf, venueBy}
 use Rattle.day.proofs.Listed.{governing-listed, source-good}
 use Rattle.query.specs.Judging.{windowRefusal}
 use Rattle.query.proofs.Order.{window-passed}
-use Rattle.plain.specs.Plain.{PlainDate, PlainWindow}
+use Rattle.plain.specs.Plain.{PlainDate, PlainWindow, longestRun}
 use Rattle.plain.specs.Books.{window, PlainFor, Plain}
 use Rattle.plain.proofs.Steady.{steady-date, begins-at, ends-at}
 use Rattle.agreement.specs.Books.{Names}
@@ -51,7 +51,7 @@ module _ (first : ℕ) (ats os : List ℕ) (ok : Valid first ats os) (g : ℕ �
     date : (d : ℕ) → start ≤ suc d → d ≤ suc last → PlainDate v d
     date d a b = steady-date first ats os ok g good d o (omega arith) (omega arith) small (λ t l h. steady t (omega arith) (omega arith))
 
-    pub steady-window : w .end ≤ w .start + 3659 * dayNs → PlainWindow v w
+    pub steady-window : w .end ≤ w .start + (longestRun - 1) * dayNs → PlainWindow v w
     steady-window short =
         let n : start + (suc last - start) ≡ suc last = omega arith in
         record {
@@ -68,17 +68,17 @@ module _ (first : ℕ) (ats os : List ℕ) (ok : Valid first ats os) (g : ℕ �
 
 -- ---- a window of a book
 
--- the first and the last day of an instant in range
-in-days : (n : ℤ) → inside instants n ≡ true → (372 * dayNs ≤ instantOf n) × (instantOf n ≤ 109215 * dayNs)
+-- an instant in range, since 1899-12-25
+in-days : (n : ℤ) → inside instants n ≡ true → (zeroDay * dayNs - instantsBefore ≤ instantOf n) × (instantOf n ≤ zeroDay * dayNs + instantsAfter)
 in-days (pos k) e =
-    let h = leb-true k (7226582400 * secondNs) (and-true (leZ (instants .low) (pos k)) (leZ (pos k) (instants .high)) e .1) in
+    let h = leb-true k instantsAfter (and-true (leZ (instants .low) (pos k)) (leZ (pos k) (instants .high)) e .1) in
     (omega arith, omega arith)
 in-days (negsuc k) e =
-    let h = leb-true k (2177452800 * secondNs - 1) (and-true (leZ (instants .low) (negsuc k)) (leZ (negsuc k) (instants .high)) e .0) in
+    let h = leb-true k (instantsBefore - 1) (and-true (leZ (instants .low) (negsuc k)) (leZ (negsuc k) (instants .high)) e .0) in
     (omega arith, omega arith)
 
 module _ (s : List ℕ) (c : Coverage) (named : Names s c) (start end : ℤ) (passes : windowRefusal start end ≡ 0)
-    (short : instantOf end ≤ instantOf start + 3659 * dayNs) where
+    (short : instantOf end ≤ instantOf start + (longestRun - 1) * dayNs) where
   abbrev zone : Zone
   zone = valuesOf (records s) c .zone
 

@@ -1,7 +1,7 @@
 -- A phase written in two parts, and amended where it stands: its end, and from its second boundary on. Assumes nothing.
 use mathlib.Core.Path.{_≡_, refl, sym, ap, _∙_}
 use mathlib.Core.List.{List, [], _++_, append-assoc}
-use Prim.Native.Nat.{ℕ, _+_}
+use Prim.Native.Nat.{ℕ, _+_, _-_}
 use native.Mathlib.Omega.{arith}
 use lib.ListN.{length, length-append}
 use lib.Seq.{take-at}
@@ -14,7 +14,7 @@ use Rattle.answer.specs.Amending.{front, Amends}
 use Rattle.answer.specs.declared.Phase.{Phase}
 use Rattle.answer.proofs.Chain.{signed8, head, doubt, side, phase-bytes}
 
--- ---- a phase's bytes: 12 before its end, 35 from there to its second boundary, and 50 from that on
+-- ---- a phase's bytes: before its end, the end, from there to its second boundary, and from that on
 
 abbrev first : Forms.Phase → List ℕ
 first p = head phaseLength phaseKind ++ signed8 (p .start)
@@ -30,7 +30,7 @@ phase-parts p = phase-bytes p ∙ simp append-assoc
 
 front-parts : (p : Forms.Phase) → front p ≡ first p ++ (signed8 (p .end) ++ middle p)
 unfolding bytes
-front-parts p = rw (phase-parts p) (take-at (first p ++ (signed8 (p .end) ++ middle p)) (back p) 55 refl)
+front-parts p = rw (phase-parts p) (take-at (first p ++ (signed8 (p .end) ++ middle p)) (back p) (toPlace .from) refl)
 
 -- ---- its front stands
 
@@ -75,8 +75,8 @@ over-and-behind at x y z {s} {t} {u} {v} {r} {n} {m} stands fits a b c d e =
     let long : length (x ++ (v ++ z)) ≡ length (x ++ (y ++ z)) = simp length-append (omega arith) in
     d .same ∙ ap (λ (l : List ℕ). wrote l m r) over ∙ wrote-wrote s at m (x ++ (v ++ z)) r (omega arith) (omega (arith, d .many))
 
-pub amended : (p : Phase) {s t u : List ℕ} {at q r : ℕ} → Amends s at p → Put s (at + 12) (signed8 (phaseOf p .end)) 8 t q
-    → Put t (at + 55) (back (phaseOf p)) 50 u r
+pub amended : (p : Phase) {s t u : List ℕ} {at q r : ℕ} → Amends s at p → Put s (at + Forms.end .from) (signed8 (phaseOf p .end)) (Forms.end .width) t q
+    → Put t (at + toPlace .from) (back (phaseOf p)) (phaseSize - toPlace .from) u r
     → Put s at (encode (phase (phaseOf p))) phaseSize u r
 unfolding bytes
 amended p {s} {t} {u} {at} a x y =

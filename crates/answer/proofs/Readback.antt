@@ -21,11 +21,12 @@ use Rattle.answer.specs.Forms.{start, end, phasePlace, codePlace, labelP
 use Rattle.answer.specs.Forms.{tagBehind, oneBehind, twoBehind, textBehind, presentBehind, coverStart, coverEnd}
 use Rattle.answer.specs.Forms.{eventCode, eventAt, eventEvidence, missingAt, markRow, totalPlace}
 use Rattle.answer.specs.Forms.{kindOf, lengthOf, uncertaintyFields, coverFields, totalsFields, fieldsOf, allFields, encode}
+use Rattle.answer.specs.Forms.{coverSize, phaseKind, gapKind, eventKind, missingKind, markKind, dayKind, manyTotals}
 use Rattle.answer.specs.Fitting.{Sized, FitsValues, FitsCover, FitsEach, FitsTotals, Fitting}
 
 -- ---- how many
 
-cover-span : (p : Place) (c : Option Cover) → span (coverFields p c) ≡ 17
+cover-span : (p : Place) (c : Option Cover) → span (coverFields p c) ≡ coverSize
 cover-span p none = refl
 cover-span p (some c) = refl
 
@@ -105,18 +106,18 @@ abbrev pointAt : List ℕ → ℕ → Missing
 pointAt s at = record { at = integer missingAt s at; coverage = coverAt missingAt s at }
 
 abbrev sumsAt : List ℕ → ℕ → Totals
-sumsAt s at = record { start = integer start s at; end = integer end s at; totals = totalsAt s (at + totalPlace .from) 10 }
+sumsAt s at = record { start = integer start s at; end = integer end s at; totals = totalsAt s (at + totalPlace .from) manyTotals }
 
 -- by the kind that stands there
 abbrev pub formAt : List ℕ → ℕ → Form
 formAt s at =
     let k = number kind s at in
-    cond (eqb k 16) (phase (phaseAt s at))
-    (cond (eqb k 17) (unknown (gapAt s at))
-    (cond (eqb k 18) (event (happened s at))
-    (cond (eqb k 19) (point (pointAt s at))
-    (cond (eqb k 21) (mark (number markRow s at))
-    (cond (eqb k 22) (day (sumsAt s at)) (tally (sumsAt s at)))))))
+    cond (eqb k phaseKind) (phase (phaseAt s at))
+    (cond (eqb k gapKind) (unknown (gapAt s at))
+    (cond (eqb k eventKind) (event (happened s at))
+    (cond (eqb k missingKind) (point (pointAt s at))
+    (cond (eqb k markKind) (mark (number markRow s at))
+    (cond (eqb k dayKind) (day (sumsAt s at)) (tally (sumsAt s at)))))))
 
 -- ---- the fields from a boundary on
 

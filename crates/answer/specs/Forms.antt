@@ -146,6 +146,20 @@ markRow = then kind 2
 abbrev pub totalPlace : Place
 totalPlace = then end 8
 
+-- ---- how many bytes: a start and an end, an uncertainty, a boundary with its own, coverage
+
+abbrev pub endsSize : ℕ
+endsSize = start .width + end .width
+
+abbrev pub uncertaintySize : ℕ
+uncertaintySize = 1 + 8 + 8 + 2
+
+abbrev pub sideSize : ℕ
+sideSize = 8 + uncertaintySize
+
+abbrev pub coverSize : ℕ
+coverSize = 1 + 8 + 8
+
 -- ---- kinds, and the length L of what follows it
 
 abbrev pub phaseKind : ℕ

@@ -9,7 +9,7 @@ ghost use Rattle.wire.specs.Fields.{Inside, Put, bytes};
 ghost use Rattle.zone.specs.Units.{instantNumber};
 ghost use Rattle.zone.specs.Answers.{values, uncertaintyBytes};
 ghost use Rattle.records.specs.Layout.{headSize};
-ghost use Rattle.answer.specs.Forms.{phase, unknown, event, point, day, tally, encode, phaseSize, gapSize, eventSize, missingSize, rowSize, manyTotals, toPlace};
+ghost use Rattle.answer.specs.Forms.{phase, unknown, event, point, day, tally, encode, phaseSize, gapSize, eventSize, missingSize, rowSize, manyTotals, toPlace, endsSize, uncertaintySize, sideSize, coverSize};
 ghost use Rattle.answer.specs.Amending.{front, Amends};
 ghost use Rattle.answer.specs.Meaning.{phaseOf, eventOf, coverBytes, missingOf, gapOf, totalsBytes, totalsOf};
 use crate::Covered;
@@ -32,9 +32,9 @@ fn put_instant(out: &mut [u8], at: usize, t: Instant) -> usize
 }
 
 fn put_span(out: &mut [u8], at: usize, start: Instant, end: Instant) -> usize
-    requires { ⌜ Inside at 16 (now out) ⌝ }
+    requires { ⌜ Inside at endsSize (now out) ⌝ }
     ensures { λ r. ⌜ Put (now (out .entry)) at
-        (bytes 8 (ofZ w64 (instantNumber (start .0))) ++ bytes 8 (ofZ w64 (instantNumber (end .0)))) 16 (now (out .exit)) r ⌝ }
+        (bytes 8 (ofZ w64 (instantNumber (start .0))) ++ bytes 8 (ofZ w64 (instantNumber (end .0)))) endsSize (now (out .exit)) r ⌝ }
 {
     let a = put_instant(out, at, start);
     put_instant(out, a, end)
@@ -95,8 +95,8 @@ fn taken_apart(u: Uncertainty) -> Parts
 }
 
 fn put_uncertainty(out: &mut [u8], at: usize, u: Uncertainty) -> usize
-    requires { ⌜ Inside at 19 (now out) ⌝ }
-    ensures { λ r. ⌜ Put (now (out .entry)) at (uncertaintyBytes u) 19 (now (out .exit)) r ⌝ }
+    requires { ⌜ Inside at uncertaintySize (now out) ⌝ }
+    ensures { λ r. ⌜ Put (now (out .entry)) at (uncertaintyBytes u) uncertaintySize (now (out .exit)) r ⌝ }
 {
     let p = taken_apart(u);
     let a = put1(out, at, p.tag);
@@ -106,8 +106,8 @@ fn put_uncertainty(out: &mut [u8], at: usize, u: Uncertainty) -> usize
 }
 
 fn put_boundary(out: &mut [u8], at: usize, b: Boundary) -> usize
-    requires { ⌜ Inside at 27 (now out) ⌝ }
-    ensures { λ r. ⌜ Put (now (out .entry)) at (bytes 8 (ofZ w64 (instantNumber (b .at .0))) ++ uncertaintyBytes (b .uncertainty)) 27 (now (out .exit)) r ⌝ }
+    requires { ⌜ Inside at sideSize (now out) ⌝ }
+    ensures { λ r. ⌜ Put (now (out .entry)) at (bytes 8 (ofZ w64 (instantNumber (b .at .0))) ++ uncertaintyBytes (b .uncertainty)) sideSize (now (out .exit)) r ⌝ }
 {
     let uncertainty = b.uncertainty;
     let a = put_instant(out, at, b.at);
@@ -191,8 +191,8 @@ pub fn put_event(out: &mut [u8], at: usize, code: u16, b: Boundary, evidence: u1
 
 // Whether there is coverage, and from when to when.
 fn put_cover(out: &mut [u8], at: usize, c: Covered) -> usize
-    requires { ⌜ Inside at 17 (now out) ⌝ }
-    ensures { λ r. ⌜ Put (now (out .entry)) at (coverBytes c) 17 (now (out .exit)) r ⌝ }
+    requires { ⌜ Inside at coverSize (now out) ⌝ }
+    ensures { λ r. ⌜ Put (now (out .entry)) at (coverBytes c) coverSize (now (out .exit)) r ⌝ }
 {
     match c {
         Covered::Nothing => {

@@ -13,7 +13,7 @@ use lib.IntN.{ℤ, pos, negsuc}
 use mir.Syntax.{w64}
 use Rattle.wire.specs.Signs.{half, placed}
 use Rattle.wire.proofs.Signs.{and-no}
-use Rattle.board.specs.Cells.{columnsOf, cellInstant, markerColumn}
+use Rattle.board.specs.Cells.{columnsOf, cellInstant, markerColumn, mostColumns, fewestColumns}
 use Rattle.board.specs.Private.{Good, PaceOf, ColumnOf, amount, Small, Sum}
 use Rattle.board.specs.declared.grid.Grid.{Grid}
 use Rattle.board.specs.declared.grid.Pace.{Pace}
@@ -23,15 +23,15 @@ use Rattle.board.specs.declared.grid.Mixed.{Mixed}
 -- ---- columns
 
 module _ (z : ℤ) (p : ℕ) (e : p ≡ placed w64 z) where
-  pub few-columns : p < half w64 + 12 → 12 ≡ columnsOf z
+  pub few-columns : p < half w64 + fewestColumns → fewestColumns ≡ columnsOf z
   unfolding placed
   few-columns h = go z e
     where
-      go : (z : ℤ) → p ≡ placed w64 z → 12 ≡ columnsOf z
+      go : (z : ℤ) → p ≡ placed w64 z → fewestColumns ≡ columnsOf z
       go (pos n) e = omega arith
       go (negsuc n) e = refl
 
-  pub enough-columns : half w64 + 12 ≤ p → p - half w64 ≡ columnsOf z
+  pub enough-columns : half w64 + fewestColumns ≤ p → p - half w64 ≡ columnsOf z
   unfolding placed
   enough-columns h = go z e
     where
@@ -39,7 +39,7 @@ module _ (z : ℤ) (p : ℕ) (e : p ≡ placed w64 z) where
       go (pos n) e = omega arith
       go (negsuc n) e = absurd (omega arith)
 
-pub columns-some : (z : ℤ) → 12 ≤ columnsOf z
+pub columns-some : (z : ℤ) → fewestColumns ≤ columnsOf z
 columns-some (pos n) = omega arith
 columns-some (negsuc n) = omega arith
 
@@ -164,9 +164,9 @@ module _ (start end columns : ℕ) (marked : Bool) (at : ℕ) where
   marker-in e a b r q = simp (e, le-leb start at a, lt-ltb at end b) q
 
 -- what is gone in 416 days, for each column
-pub short-fits : (gone columns : ℕ) → gone ≤ 2 ^ 55 - 1 → columns ≤ 512 → gone * columns < 2 ^ 64
+pub short-fits : (gone columns : ℕ) → gone ≤ 2 ^ 55 - 1 → columns ≤ mostColumns → gone * columns < 2 ^ 64
 short-fits gone columns s f =
-    let m : gone * columns ≤ gone * 512 = mul-le-mul-left gone f in
+    let m : gone * columns ≤ gone * mostColumns = mul-le-mul-left gone f in
     omega arith
 
 -- the sum, and the term as often as is left, are what is gone for each column
@@ -175,21 +175,21 @@ pub record Sharing (gone columns span : ℕ) (sum term : Mixed) (left : ℕ) : T
   pub sum-part : sum .part < span
   pub term-part : term .part < span
 
-module _ (gone columns span : ℕ) (h : gone < span) (few : columns ≤ 512) where
+module _ (gone columns span : ℕ) (h : gone < span) (few : columns ≤ mostColumns) where
   pub share-start : Sharing gone columns span (record { whole = 0; part = 0 }) (record { whole = 0; part = gone }) columns
   share-start =
       let z : 0 * span ≡ 0 = zero-mul span in
       let m : (0 * span + gone) * columns ≡ gone * columns = ap (λ (x : ℕ). x * columns) (omega (arith, z)) in
       record { total = omega (arith, z, m); sum-part = omega arith; term-part = h }
 
-  whole-few : (w : ℕ) → w * span ≤ gone * columns → w ≤ 512
-  whole-few w l = go (decLt 512 w)
+  whole-few : (w : ℕ) → w * span ≤ gone * columns → w ≤ mostColumns
+  whole-few w l = go (decLt mostColumns w)
     where
-      go : Dec (512 < w) → w ≤ 512
+      go : Dec (mostColumns < w) → w ≤ mostColumns
       go (no n) = omega arith
       go (yes y) =
-          let a : 513 * span ≤ w * span = mul-le-mul-right span (omega arith) in
-          let b : gone * columns ≤ gone * 512 = mul-le-mul-left gone few in
+          let a : suc mostColumns * span ≤ w * span = mul-le-mul-right span (omega arith) in
+          let b : gone * columns ≤ gone * mostColumns = mul-le-mul-left gone few in
           absurd (omega arith)
 
   module _ (sum term : Mixed) (left : ℕ) (i : Sharing gone columns span sum term left) where

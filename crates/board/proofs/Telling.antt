@@ -25,7 +25,7 @@ use Rattle.lend.specs.declared.Reply.{Reply}
 use Rattle.lend.proofs.Replies.{lent-refused, lent-short, lent-written, lent-same, lent-reply}
 use Rattle.rows.specs.Rows.{goodRow, segments}
 use Rattle.zone.specs.Units.{instantOf}
-use Rattle.board.specs.Cells.{columnsOf, cellsFrom, markerColumn, gridOf, drawn, text, judgedCells, cellsNumber, cellsAnswer}
+use Rattle.board.specs.Cells.{columnsOf, cellsFrom, markerColumn, gridOf, drawn, text, judgedCells, cellsNumber, cellsAnswer, mostColumns}
 use Rattle.board.specs.Private.{Good}
 use Rattle.board.specs.declared.grid.Grid.{Grid}
 use Rattle.board.proofs.Columns.{columns-some}
@@ -51,25 +51,25 @@ pub end-length : (g : Grid) (row room mid : List ℕ) → g .columns + 2 ≤ len
 end-length g row room mid l w n = length-set mid n 93 ∙ mid-length g row room mid l w
 
 module _ (row : List ℕ) (start end : ℕ) (columns : ℤ) (marked : Bool) (at : ℕ) (room : List ℕ) (r : Reply) (many : ℕ) (e : many ≡ columnsOf columns) where
-  pub told-many : 512 < many → r ≡ record { number = 14; length = 0 } → Lent (judgedCells row columns) (text row start end columns marked at) room room r
+  pub told-many : mostColumns < many → r ≡ record { number = 14; length = 0 } → Lent (judgedCells row columns) (text row start end columns marked at) room room r
   told-many h q =
-      let l : 512 < columnsOf columns = omega arith in
-      let n : 14 ≡ judgedCells row columns = simp (lt-ltb 512 (columnsOf columns) l) in
+      let l : mostColumns < columnsOf columns = omega arith in
+      let n : 14 ≡ judgedCells row columns = simp (lt-ltb mostColumns (columnsOf columns) l) in
       lent-same (lent-reply (lent-refused (text row start end columns marked at) room {number = 14} (λ z. omega arith)) q) n refl
 
-  module _ (h : many ≤ 512) where
-    few : columnsOf columns ≤ 512
+  module _ (h : many ≤ mostColumns) where
+    few : columnsOf columns ≤ mostColumns
     few = omega arith
 
     pub told-bad : goodRow row ≡ false → r ≡ record { number = 15; length = 0 }
         → Lent (judgedCells row columns) (text row start end columns marked at) room room r
     told-bad g q =
-        let n : 15 ≡ judgedCells row columns = simp (le-ltb 512 (columnsOf columns) few, g) in
+        let n : 15 ≡ judgedCells row columns = simp (le-ltb mostColumns (columnsOf columns) few, g) in
         lent-same (lent-reply (lent-refused (text row start end columns marked at) room {number = 15} (λ z. omega arith)) q) n refl
 
     module _ (g : goodRow row ≡ true) where
       passes : judgedCells row columns ≡ 0
-      passes = simp (le-ltb 512 (columnsOf columns) few, g)
+      passes = simp (le-ltb mostColumns (columnsOf columns) few, g)
 
       long : length (text row start end columns marked at) ≡ columnsOf columns + 2
       long = drawn-length (gridOf start end (columnsOf columns) marked at) (segments row)
@@ -92,7 +92,7 @@ module _ (row : List ℕ) (start end : ℕ) (columns : ℤ) (marked : Bool) (at 
           (z ∙ ap (λ (g : Grid). wrote room 0 (drawn g (segments row))) k) {n = many + 2} (omega (arith, long)))
           i
 
-pub good-grid : (start end many marker : ℕ) (columns : ℤ) → many ≡ columnsOf columns → many ≤ 512 → start < end → end < 2 ^ 64
+pub good-grid : (start end many marker : ℕ) (columns : ℤ) → many ≡ columnsOf columns → many ≤ mostColumns → start < end → end < 2 ^ 64
     → Good (madeGrid start end many marker)
 good-grid start end many marker columns e h l f =
     let c = columns-some columns in

@@ -14,11 +14,11 @@ use mir.Syntax.{w64}
 use Rattle.wire.specs.Signs.{half, meant, turned}
 use Rattle.wire.proofs.Signs.{order-lt, meant-sum}
 use Rattle.book.specs.declared.judge.Seen.{Seen}
-use Rattle.zone.specs.Units.{dayNs}
+use Rattle.zone.specs.Units.{dayNs, spacing}
 use Rattle.records.specs.Layout.{number, time, step, transitionInstant, coverageKind, transitionKind, ruleKind, eventKind, isRule}
 use Rattle.records.specs.Limits.{base}
 use Rattle.records.specs.Records.{Coverage, Transition, Rule, Event, Record, coverage, transition, rule, event, coverageAt, transitionAt, ruleAt, eventAt, recordAt, kindOf}
-use Rattle.records.specs.Book.{inside, seconds, spacing, kindAt, nextAt, badFrame, headless, many, most, tooMany, badFields, badItems, outside, lateStart, falling, reversed, coversNothing, lastInstant, closer, tooClose, numberOf, numberAt, numberFrom, refusal}
+use Rattle.records.specs.Book.{inside, seconds, kindAt, nextAt, badFrame, headless, many, most, tooMany, badFields, badItems, outside, lateStart, falling, reversed, coversNothing, lastInstant, closer, tooClose, numberOf, numberAt, numberFrom, refusal, secondsBefore, secondsAfter}
 use Rattle.records.specs.Frame.{Framed, itemsAt}
 use Rattle.book.specs.Private.{badItem, badFrom, Room, seen, oneMore}
 use Rattle.records.proofs.Tests.{or-false, outside-test}
@@ -289,11 +289,11 @@ module _ {s : List ℕ} {at : ℕ} {t : Seen} {k : ℕ} (n : Known s at t k) whe
       go (three i) = rw (e, i) (more-3 (n .here .counts) (ruleAt s at) (not-one h2 ruleKind i (λ q. omega arith)) (few-of h3 ruleKind i))
       go (four i) = rw (e, i) (more-4 (n .here .counts) (eventAt s at) (not-one h2 eventKind i (λ q. omega arith)) (few-of h3 eventKind i))
 
-  seconds-high : (p : ℕ) → not (inside seconds (meant w64 p)) ≡ false → p ≤ half w64 + 7258118400
+  seconds-high : (p : ℕ) → not (inside seconds (meant w64 p)) ≡ false → p ≤ half w64 + secondsAfter
   unfolding meant
   seconds-high p q =
-      let low = half w64 - 2208988800 in
-      let high = half w64 + 7258118400 in
+      let low = half w64 - secondsBefore in
+      let high = half w64 + secondsAfter in
       ltb-false high p (or-false (ltb p low) (ltb high p) (outside-test w64 low high p ∙ q) .1)
 
   pub room-of : badFields base r ≡ false → Room s at t

@@ -156,10 +156,10 @@ module _ (s : List ℕ) (at k n : ℕ) (f : Framed s at) (e : k ≡ kindAt s at)
       go (three j) =
           let c = count-of k refl j in
           let r = room3 s at k f e j in
-          let y : item ≡ at + i * 9 = p ∙ ap (λ (m : ℕ). at + i * step m) j in
+          let y : item ≡ at + i * step ruleKind = p ∙ ap (λ (m : ℕ). at + i * step m) j in
           rw j (omega arith)
       go (four j) =
           let c = count-four j in
           let r = room4 s at k f e j in
-          let y : item ≡ at + i * 8 = p ∙ ap (λ (m : ℕ). at + i * step m) j in
+          let y : item ≡ at + i * step eventKind = p ∙ ap (λ (m : ℕ). at + i * step m) j in
           rw j (omega arith)

@@ -15,7 +15,7 @@ use Rattle.zone.specs.Units.{dayNs}
 use Rattle.records.specs.Layout.{number, integer, tag, nanoseconds, count, time, phase, step, dayFirst, dayLast, coverageStart, coverageEnd, coverageKind, ruleKind, eventKind, isDated, ruleCode, isRule}
 use Rattle.records.specs.Records
 use Rattle.records.specs.Records.{rule, ruleAt, recordAt, publishedAt, pointsAt, timesAt}
-use Rattle.records.specs.Book.{kindAt, badUncertainty, late, lateStart, reversed, coversNothing}
+use Rattle.records.specs.Book.{kindAt, badUncertainty, late, lateStart, reversed, coversNothing, lastPhase, lastPublished, mostWidth}
 use Rattle.records.specs.Frame.{Framed, itemsAt}
 use Rattle.book.specs.Private.{badItem}
 use Rattle.records.proofs.Tests.{or-no, outside-test, above-test}
@@ -25,14 +25,14 @@ use Rattle.records.proofs.Frames.{Kind, one, two, three, four, kind-of, is-one,
 
 -- the uncertainty of a tag, a placed number and a text
 uncertain : (tag p text : ℕ)
-    → ((ltb 3 tag || (ltb p (half w64) || ltb (half w64 + 10 ^ 15) p)) || (((eqb tag 0 || eqb tag 3) && ltb (half w64) p) || (ltb tag 2 && not (eqb text 0))))
+    → ((ltb lastPublished tag || (ltb p (half w64) || ltb (half w64 + mostWidth) p)) || (((eqb tag 0 || eqb tag 3) && ltb (half w64) p) || (ltb tag 2 && not (eqb text 0))))
     ≡ badUncertainty (record { tag = tag; nanoseconds = meant w64 p; text = text })
 unfolding meant
-uncertain tag p text = rw (outside-test w64 (half w64) (half w64 + 10 ^ 15) p, above-test w64 (half w64) p)
+uncertain tag p text = rw (outside-test w64 (half w64) (half w64 + mostWidth) p, above-test w64 (half w64) p)
 
 module _ (s : List ℕ) (at k : ℕ) where
   pub uncertain-at : (p a b c : ℕ) → p ≡ tag k .from → a ≡ field 1 s (at + p) → b ≡ turned w64 (field 8 s (at + p + 1)) → c ≡ field 2 s (at + p + 9)
-      → ((ltb 3 a || (ltb b (half w64) || ltb (half w64 + 10 ^ 15) b)) || (((eqb a 0 || eqb a 3) && ltb (half w64) b) || (ltb a 2 && not (eqb c 0))))
+      → ((ltb lastPublished a || (ltb b (half w64) || ltb (half w64 + mostWidth) b)) || (((eqb a 0 || eqb a 3) && ltb (half w64) b) || (ltb a 2 && not (eqb c 0))))
       ≡ badUncertainty (publishedAt k s at)
   uncertain-at p a b c e q r t =
       let y : at + p + 1 ≡ at + (tag k .from + 1) = omega arith in
@@ -46,15 +46,15 @@ module _ (s : List ℕ) (at k : ℕ) where
   pub item-time-only : (t : ℕ) → isRule k ≡ false → t ≡ number (time k) s at → leb dayNs t ≡ badItem s k at
   item-time-only t n q =
       ap (leb dayNs) q ∙ sym (or-no (leb dayNs (number (time k) s at)))
-      ∙ ap (λ (b : Bool). leb dayNs (number (time k) s at) || (b && ltb 7 (number (phase k) s at))) (sym n)
+      ∙ ap (λ (b : Bool). leb dayNs (number (time k) s at) || (b && ltb lastPhase (number (phase k) s at))) (sym n)
 
   pub item-point : (t p r : ℕ) → isRule k ≡ true → t ≡ number (time k) s at → p ≡ time k .from → r ≡ field 1 s (at + p + 8)
-      → (leb dayNs t || ltb 7 r) ≡ badItem s k at
+      → (leb dayNs t || ltb lastPhase r) ≡ badItem s k at
   item-point t p r i q e u =
       let z : at + p + 8 ≡ at + (time k .from + 8) = omega arith in
       let w : r ≡ number (phase k) s at = u ∙ ap (λ (j : ℕ). field 1 s j) z in
-      ap₂ (λ (x y : ℕ). leb dayNs x || ltb 7 y) q w
-      ∙ ap (λ (b : Bool). leb dayNs (number (time k) s at) || (b && ltb 7 (number (phase k) s at))) (sym i)
+      ap₂ (λ (x y : ℕ). leb dayNs x || ltb lastPhase y) q w
+      ∙ ap (λ (b : Bool). leb dayNs (number (time k) s at) || (b && ltb lastPhase (number (phase k) s at))) (sym i)
 
 -- so many points and times are read
 pub points-length : (s : List ℕ) (at n : ℕ) → length (pointsAt s at n) ≡ n

@@ -7,12 +7,13 @@ use lib.Dec.{ltb}
 use mir.Syntax.{w64}
 use Rattle.wire.specs.Signs.{turned}
 use Rattle.book.specs.declared.judge.Seen.{Seen}
+use Rattle.zone.specs.Units.{spacing}
 use Rattle.records.specs.Layout.{number, by, transitionInstant, time, phase, step, transitionKind, isRule}
-use Rattle.records.specs.Book.{badTime, kindAt, spacing}
+use Rattle.records.specs.Book.{badTime, kindAt, lastPhase}
 
 -- one point or time, read from `at` on
 abbrev pub badItem : List ℕ → ℕ → ℕ → Bool
-badItem s k at = badTime (number (time k) s at) || (isRule k && ltb 7 (number (phase k) s at))
+badItem s k at = badTime (number (time k) s at) || (isRule k && ltb lastPhase (number (phase k) s at))
 
 -- one of n of them
 unfoldable pub badFrom : List ℕ → ℕ → ℕ → ℕ → Bool

@@ -21,6 +21,7 @@ use wire::get8;
 use wire::signed4;
 use wire::signed8;
 use zone::DAY_NS;
+use zone::SPACING;
 
 // The records seen so far: how many of each kind, and the earliest second that the next transition may have, placed.
 pub(crate) struct Seen {
@@ -30,9 +31,6 @@ pub(crate) struct Seen {
     pub events: u32,
     pub least: u64,
 }
-
-// Seconds from a transition to the next.
-const SPACING: u64 = 172_800;
 
 fn outside4(book: &[u8], p: usize, low: u32, high: u32) -> bool
     requires { ⌜ Inside p 4 (now book) ⌝ }
@@ -131,7 +129,7 @@ fn bad_uncertainty(book: &[u8], at: usize, kind: u16) -> bool
     let tag = get1(book, p);
     let nanoseconds = signed8(book, p + NANOSECONDS).0;
     let text = get2(book, p + TEXT);
-    ((3 < tag) | ((nanoseconds < WIDTHS_LOW) | (WIDTHS_HIGH < nanoseconds)))
+    ((LAST_PUBLISHED < tag) | ((nanoseconds < WIDTHS_LOW) | (WIDTHS_HIGH < nanoseconds)))
         | ((((tag == 0) | (tag == 3)) & (WIDTHS_LOW < nanoseconds)) | ((tag < 2) & (text != 0)))
 }
 
@@ -143,7 +141,7 @@ fn bad_rule(book: &[u8], at: usize) -> bool
     let mask = get1(book, at + RULE_MASK);
     let label = get2(book, at + RULE_LABEL);
     let n = get1(book, at + count_place(RULE));
-    (bad_days(book, at) | (LAST_CODE < code) | (127 < mask))
+    (bad_days(book, at) | (LAST_CODE < code) | (LAST_MASK < mask))
         | (((code == 0) & (label != 0))
             | (!(code == 0) & (mask != 0))
             | bad_uncertainty(book, at, RULE))

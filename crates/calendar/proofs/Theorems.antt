@@ -175,13 +175,13 @@ has-date (suc k) h =
     (nextDate (on .0), more .0, omega (arith, more .1, on .2))
 
 -- the Day of a day number of the domain
-on-day : (n : ℤ) → (leZ (negsuc 25566) n && leZ n (pos 84005)) ≡ true → (d : ℕ) × (firstDay ≤ d) × (d ≤ lastDay) × (meaning d ≡ n)
+on-day : (n : ℤ) → (leZ (meaning firstDay) n && leZ n (meaning lastDay)) ≡ true → (d : ℕ) × (firstDay ≤ d) × (d ≤ lastDay) × (meaning d ≡ n)
 on-day (pos a) e =
-    let h = leb-true a 84005 e in
+    let h = leb-true a (lastDay - zeroDay) e in
     let z : a + zeroDay - zeroDay ≡ a = omega arith in
     (a + zeroDay, omega arith, omega arith, simp (le-ltb (a + zeroDay) zeroDay (omega arith), z))
 on-day (negsuc a) e =
-    let h = leb-true a 25566 (and-true (leb a 25566) true e .0) in
+    let h = leb-true a (zeroDay - suc firstDay) (and-true (leb a (zeroDay - suc firstDay)) true e .0) in
     let d = zeroDay - suc a in
     let z : zeroDay - suc d ≡ a = omega arith in
     (d, omega arith, omega arith, simp (lt-ltb d zeroDay (omega arith), z))
@@ -189,9 +189,9 @@ on-day (negsuc a) e =
 -- a conversion that finds no date was asked for a day number outside the domain
 pub none-outside : (n : ℤ) → DateOf n NoDate → within n ≡ none
 unfolding between
-none-outside n no-date = go (leZ (negsuc 25566) n && leZ n (pos 84005)) refl
+none-outside n no-date = go (leZ (meaning firstDay) n && leZ n (meaning lastDay)) refl
   where
-    go : (b : Bool) → (leZ (negsuc 25566) n && leZ n (pos 84005)) ≡ b → cond b (some n) none ≡ none
+    go : (b : Bool) → (leZ (meaning firstDay) n && leZ n (meaning lastDay)) ≡ b → cond b (some n) none ≡ none
     go false e = refl
     go true e =
         let on = on-day n e in

@@ -32,7 +32,7 @@ weekdayOf d = d % 7
 
 -- a day number from -25,567 to 84,005; another is none
 abbrev pub within : ℤ → Option ℤ
-within n = between (negsuc 25566) (pos 84005) n
+within n = between (meaning firstDay) (meaning lastDay) n
 
 -- the day number that an answer gives, and that of the Day that an answer gives
 abbrev pub numbered : Numbered → Option ℤ

@@ -19,6 +19,7 @@ use Rattle.zone.specs.declared.Boundary.{Boundary}
 use Rattle.zone.specs.declared.Uncertainty.{Uncertainty}
 use Rattle.zone.specs.declared.Uncertainty.the-variants.{Exact}
 use Rattle.records.specs.Records.{Point, Rule}
+use Rattle.records.specs.Limits.{base}
 use Rattle.venue.specs.Reading.{published, midnight}
 use Rattle.spans.specs.Spans.{Span, keep}
 use Rattle.spans.specs.Timeline.{Edge, Venue, raised, between, cut, ofPoints}
@@ -108,14 +109,14 @@ module _ (z : Zone) (r : Rule) (d : ℕ) where
 
   -- the first n of them stand in an array
   pub record Filled (a : List Boundary) (n : ℕ) : Type 0 where
-    pub long : length a ≡ 17
+    pub long : length a ≡ suc (base .points)
     pub some-in : 1 ≤ n
     pub each : (j : ℕ) → j < n → at a j ≡ boundaryOf z r (edge j)
 
-  pub filled-first : (a : List Boundary) → length a ≡ 17 → at a 0 ≡ boundaryAt z d (timeOf 0) (published (r .uncertainty)) → Filled a 1
+  pub filled-first : (a : List Boundary) → length a ≡ suc (base .points) → at a 0 ≡ boundaryAt z d (timeOf 0) (published (r .uncertainty)) → Filled a 1
   filled-first a l e = record { long = l; some-in = omega arith; each = λ j h. let q : j ≡ 0 = omega arith in rw q (e ∙ own-first) }
 
-  pub filled-next : (a : List Boundary) (n m : ℕ) (b y : Boundary) → Filled a n → n < 17 → b ≡ raise m y → m ≡ at a (n - 1) .at .0
+  pub filled-next : (a : List Boundary) (n m : ℕ) (b y : Boundary) → Filled a n → n < suc (base .points) → b ≡ raise m y → m ≡ at a (n - 1) .at .0
       → y ≡ boundaryAt z d (timeOf n) (published (r .uncertainty)) → Filled (set a n b) (n + 1)
   filled-next a n m b y f h e p q =
       record {
@@ -141,7 +142,7 @@ module _ (z : Zone) (r : Rule) (d : ℕ) where
     pub filled : Filled a n
     pub end : at a n ≡ boundaryOf z r (last (n - 1))
 
-  pub ended : (a : List Boundary) (n m : ℕ) (b y : Boundary) → Filled a n → n < 17 → b ≡ raise m y → m ≡ at a (n - 1) .at .0
+  pub ended : (a : List Boundary) (n m : ℕ) (b y : Boundary) → Filled a n → n < suc (base .points) → b ≡ raise m y → m ≡ at a (n - 1) .at .0
       → y ≡ boundaryAt z (suc d) 0 (published (r .uncertainty)) → Ended (set a n b) n
   ended a n m b y f h e p q =
       record {

@@ -17,7 +17,7 @@ use Rattle.records.proofs.Tests.{or-false}
 use Rattle.venue.specs.Reading.{ListedRules}
 use Rattle.day.specs.Governing.{governing, governingPlace}
 use Rattle.day.specs.Narrowing.{nearOf}
-use Rattle.day.specs.Keeping.{firstDay, dayBehind, keptPlaces, stretch, keptNumbers, keptAfter, Keeps, KeepsFor}
+use Rattle.day.specs.Keeping.{firstDay, dayBehind, keptPlaces, stretch, keptNumbers, keptAfter, Keeps, KeepsFor, keptFrom}
 use Rattle.day.specs.Meaning.{ruled, placeOf, Stands}
 use Rattle.day.specs.declared.Governed.{Governed}
 use Rattle.day.proofs.Narrowing.{near-governing, near-few, near-listed}
@@ -30,14 +30,14 @@ keeps-blank rest = record { fits = omega arith; listed = λ i h. absurd (omega a
 -- ---- the array as it is stored
 
 -- what was found behind three numbers, of which the last says how many, is one write
-pub stored : (old found vs : List ℕ) (x y n : ℕ) → 3 + length vs ≤ length old → found ≡ wrote (take (length old - 3) (drop 3 old)) 0 vs
-    → set (set (set (putMid 3 (length old - 3) old found) 0 x) 1 y) 2 n ≡ wrote old 0 (x ∷ y ∷ n ∷ vs)
+pub stored : (old found vs : List ℕ) (x y n : ℕ) → keptFrom + length vs ≤ length old → found ≡ wrote (take (length old - keptFrom) (drop keptFrom old)) 0 vs
+    → set (set (set (putMid 3 (length old - keptFrom) old found) 0 x) 1 y) 2 n ≡ wrote old 0 (x ∷ y ∷ n ∷ vs)
 unfolding wrote
 stored [] found vs x y n l f = absurd (omega arith)
 stored (a ∷ []) found vs x y n l f = absurd (omega arith)
 stored (a ∷ b ∷ []) found vs x y n l f = absurd (omega arith)
 stored (a ∷ b ∷ c ∷ ks) found vs x y n l f =
-    let m : length (a ∷ b ∷ c ∷ ks) - 3 ≡ length ks = omega arith in
+    let m : length (a ∷ b ∷ c ∷ ks) - keptFrom ≡ length ks = omega arith in
     let back = drop (0 + length vs) ks in
     let whole : found ≡ vs ++ back = f ∙ ap (λ (q : List ℕ). wrote q 0 vs) (ap (λ (k : ℕ). take k ks) m ∙ take-length ks) in
     let none = ap (λ (k : ℕ). drop k ks) m ∙ drop-length ks in
@@ -52,7 +52,7 @@ record Stored (vs : List ℕ) (x y : ℕ) (a : List ℕ) : Type 0 where
   count : getD a 2 0 ≡ length vs
   places : keptPlaces a ≡ vs
 
-stored-so : (old vs : List ℕ) (x y : ℕ) → 3 + length vs ≤ length old → Stored vs x y (wrote old 0 (x ∷ y ∷ length vs ∷ vs))
+stored-so : (old vs : List ℕ) (x y : ℕ) → keptFrom + length vs ≤ length old → Stored vs x y (wrote old 0 (x ∷ y ∷ length vs ∷ vs))
 unfolding wrote
 stored-so old vs x y l =
     record { first = refl; behind = refl; count = refl; places = take-append-seam vs (drop (0 + length (x ∷ y ∷ length vs ∷ vs)) old) }
@@ -60,7 +60,7 @@ stored-so old vs x y l =
 -- ---- what it keeps
 
 module _ (s rules a : List ℕ) (d : ℕ) (l : ListedRules s rules) where
-  kept-for : 3 + length rules ≤ length a → KeepsFor s rules d (wrote a 0 (keptNumbers s rules d))
+  kept-for : keptFrom + length rules ≤ length a → KeepsFor s rules d (wrote a 0 (keptNumbers s rules d))
   kept-for h =
       record {
         keeps =
@@ -99,7 +99,7 @@ module _ (s rules a : List ℕ) (d : ℕ) (l : ListedRules s rules) where
     unfolding keptAfter
     after-still e = sym (simp (le-ltb (base .rules) (length rules) few, e))
 
-    pub after-keeps : 3 + base .rules ≤ length a → Keeps s rules a → KeepsFor s rules d (keptAfter s rules d a)
+    pub after-keeps : keptFrom + base .rules ≤ length a → Keeps s rules a → KeepsFor s rules d (keptAfter s rules d a)
     after-keeps h k = go (ltb d (firstDay a) || leb (dayBehind a) d) refl
       where
         go : (b : Bool) → (ltb d (firstDay a) || leb (dayBehind a) d) ≡ b → KeepsFor s rules d (keptAfter s rules d a)
@@ -113,10 +113,10 @@ module _ (s rules a : List ℕ) (d : ℕ) (l : ListedRules s rules) where
 -- ---- the kept places, as a part of the array
 
 abbrev part : List ℕ → List ℕ
-part a = take (3 + getD a 2 0 - 3) (drop 3 a)
+part a = take (keptFrom + getD a 2 0 - keptFrom) (drop keptFrom a)
 
 part-is : (a : List ℕ) → part a ≡ keptPlaces a
-part-is a = let e : 3 + getD a 2 0 - 3 ≡ getD a 2 0 = omega arith in ap (λ (k : ℕ). take k (drop 3 a)) e
+part-is a = let e : keptFrom + getD a 2 0 - keptFrom ≡ getD a 2 0 = omega arith in ap (λ (k : ℕ). take k (drop keptFrom a)) e
 
 module _ {s rules a : List ℕ} where
   pub part-listed : Keeps s rules a → ListedRules s (part a)

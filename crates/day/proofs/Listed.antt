@@ -12,7 +12,7 @@ use Rattle.zone.specs.Zone.{Zone}
 use Rattle.records.specs.Layout.{ruleKind}
 use Rattle.records.specs.Limits.{base}
 use Rattle.records.specs.Records.{Point, Rule, ruleAt}
-use Rattle.records.specs.Book.{refusal, records}
+use Rattle.records.specs.Book.{refusal, records, lastPhase}
 use Rattle.venue.specs.Opening.{rulesOf, rulePlaces}
 use Rattle.venue.specs.Reading.{EachPoint, GoodRule, ListedRule, ListedRules}
 use Rattle.venue.proofs.Laws.{good-rule, places-listed, rules-listed}
@@ -62,14 +62,14 @@ keep-one {A} x a b y rest = go (ltb a b)
 
 -- what a span of a rule holds
 pub record Under (r : Rule) (h : Held) : Type 0 where
-  pub phase : h .phase ≤ 7
+  pub phase : h .phase ≤ lastPhase
   pub rule : h .rule ≡ r
 
 module _ (z : Zone) (g : ℕ → Option Rule) (x : Span Held) where
   abbrev v : Venue Held
   v = venueBy z g
 
-  cut-under : (r : Rule) (s : Edge) (p : ℕ) (qs : List Point) → p ≤ 7 → EachPoint qs → In x (cut v r s p qs) → Under r (x .body)
+  cut-under : (r : Rule) (s : Edge) (p : ℕ) (qs : List Point) → p ≤ lastPhase → EachPoint qs → In x (cut v r s p qs) → Under r (x .body)
   unfolding cut
   cut-under r s p [] h e i = go (keep-one x (s .at) (end .at) (v .body r s p end) [] i)
     where
@@ -77,7 +77,7 @@ module _ (z : Zone) (g : ℕ → Option Rule) (x : Span Held) where
       end = raised v (s .at) (suc (s .date)) 0
 
       go : (x .body ≡ v .body r s p end) ⊎ In x [] → Under r (x .body)
-      go (inl q) = record { phase = subst (λ (b : Held). b .phase ≤ 7) (sym q) h; rule = ap (λ (b : Held). b .rule) q }
+      go (inl q) = record { phase = subst (λ (b : Held). b .phase ≤ lastPhase) (sym q) h; rule = ap (λ (b : Held). b .rule) q }
       go (inr j) = absurd j
   cut-under r s p (n ∷ ns) h e i =
       go (keep-one x (s .at) (end .at) (v .body r s p end) (cut v r end (n .phase) ns) i) (cut-under r end (n .phase) ns (e .1) (e .2))
@@ -86,7 +86,7 @@ module _ (z : Zone) (g : ℕ → Option Rule) (x : Span Held) where
       end = raised v (s .at) (s .date) (n .time)
 
       go : (x .body ≡ v .body r s p end) ⊎ In x (cut v r end (n .phase) ns) → (In x (cut v r end (n .phase) ns) → Under r (x .body)) → Under r (x .body)
-      go (inl q) on = record { phase = subst (λ (b : Held). b .phase ≤ 7) (sym q) h; rule = ap (λ (b : Held). b .rule) q }
+      go (inl q) on = record { phase = subst (λ (b : Held). b .phase ≤ lastPhase) (sym q) h; rule = ap (λ (b : Held). b .rule) q }
       go (inr j) on = on j
 
   points-under : (r : Rule) (d : ℕ) (ps : List Point) → EachPoint ps → In x (ofPoints v r d ps) → Under r (x .body)

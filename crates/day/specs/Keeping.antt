@@ -11,7 +11,10 @@ use Rattle.venue.specs.Reading.{ListedRules}
 use Rattle.day.specs.Governing.{governingPlace}
 use Rattle.day.specs.Narrowing.{nearOf}
 
--- an array's numbers: the first day that rules are kept for, the day behind the last, how many they are; then their places
+-- an array's numbers: the first day that rules are kept for, the day behind the last, how many they are; then, behind these, their places
+abbrev pub keptFrom : ℕ
+keptFrom = 3
+
 abbrev pub firstDay : List ℕ → ℕ
 firstDay a = getD a 0 0
 
@@ -19,7 +22,7 @@ abbrev pub dayBehind : List ℕ → ℕ
 dayBehind a = getD a 1 0
 
 abbrev pub keptPlaces : List ℕ → List ℕ
-keptPlaces a = take (getD a 2 0) (drop 3 a)
+keptPlaces a = take (getD a 2 0) (drop keptFrom a)
 
 -- for so many days
 abbrev pub stretch : ℕ
@@ -36,7 +39,7 @@ keptAfter s rules d a =
 
 -- on the days that they are kept for, the kept rules choose as all do
 pub record Keeps (s rules a : List ℕ) : Type 0 where
-  pub fits : 3 + getD a 2 0 ≤ length a
+  pub fits : keptFrom + getD a 2 0 ≤ length a
   pub listed : ListedRules s (keptPlaces a)
   pub same : (d : ℕ) → firstDay a ≤ d → d < dayBehind a → governingPlace s (keptPlaces a) d ≡ governingPlace s rules d
 

@@ -10,7 +10,7 @@ ghost use Rattle.records.specs.Records.{ruleAt};
 ghost use Rattle.venue.specs.Reading.{ListedRules};
 ghost use Rattle.day.specs.Governing.{governing as Governing·governing, governingPlace};
 ghost use Rattle.day.specs.Meaning.{ruled, placeOf, Stands};
-ghost use Rattle.day.specs.Keeping.{keptNumbers, keptAfter, Keeps};
+ghost use Rattle.day.specs.Keeping.{keptFrom, keptNumbers, keptAfter, Keeps};
 use crate::Governed;
 use crate::govern::governing;
 use crate::narrow::near;
@@ -33,7 +33,7 @@ const STRETCH: u32 = 64;
 
 // Keeps the rules near a date and the days after it.
 fn keep(book: &[u8], rules: &[u32], d: Day, kept: &mut [u32])
-    requires { ⌜ ListedRules (now book) (now rules) × (length (now rules) ≤ base .rules) × (3 + base .rules ≤ length (now kept)) × (d .0 < 2 ^ 17) ⌝ }
+    requires { ⌜ ListedRules (now book) (now rules) × (length (now rules) ≤ base .rules) × (keptFrom + base .rules ≤ length (now kept)) × (d .0 < 2 ^ 17) ⌝ }
     ensures { λ r. ⌜ now (kept .exit) ≡ wrote (now (kept .entry)) 0 (keptNumbers (now (book .entry)) (now (rules .entry)) (d .0)) ⌝ }
 {
     let behind = d.0 + STRETCH;
@@ -45,7 +45,7 @@ fn keep(book: &[u8], rules: &[u32], d: Day, kept: &mut [u32])
 
 // The rule that governs a date, as `governing`. Of more rules than a book may have, none are kept and all are looked at.
 pub fn governing_near(book: &[u8], rules: &[u32], d: Day, kept: &mut [u32]) -> Governed
-    requires { ⌜ ListedRules (now book) (now rules) × Keeps (now book) (now rules) (now kept) × (3 + base .rules ≤ length (now kept)) × (d .0 < 2 ^ 17) ⌝ }
+    requires { ⌜ ListedRules (now book) (now rules) × Keeps (now book) (now rules) (now kept) × (keptFrom + base .rules ≤ length (now kept)) × (d .0 < 2 ^ 17) ⌝ }
     ensures { λ r. ⌜ (ruled (now (book .entry)) r ≡ Governing·governing (map (ruleAt (now (book .entry))) (now (rules .entry))) (d .0))
         × Stands (now (book .entry)) r × (placeOf r ≡ governingPlace (now (book .entry)) (now (rules .entry)) (d .0))
         × Keeps (now (book .entry)) (now (rules .entry)) (now (kept .exit))

@@ -1,6 +1,6 @@
 // Events are found by date, listed rule and listed time. Here they are not stored: each is sought behind the one before it. This is the
 // way near a clock change; where none is near, steady.rt finds them once.
-ghost use Prim.Native.Nat.{_+_, _^_, _≤_, _<_};
+ghost use Prim.Native.Nat.{_+_, _-_, _^_, _≤_, _<_};
 ghost use mathlib.Core.Path.{_≡_};
 ghost use mathlib.Core.List.{map};
 ghost use lib.ListN.{length};
@@ -73,7 +73,7 @@ fn better(best: Best, o: Occurrence) -> bool
 
 // One more found.
 fn met(s: Search, o: Occurrence) -> Search
-    requires { ⌜ s .count < 18446744073709551615 ⌝ }
+    requires { ⌜ s .count < 2 ^ 64 - 1 ⌝ }
     ensures { λ r. ⌜ r ≡ Seeking·met s o ⌝ }
 {
     let boundary = o.boundary;

@@ -30,7 +30,7 @@ pub enum Collected {
 
 // One more kept behind n others, if there is room. Answers how many there are.
 fn keep(when: &mut [u64], which: &mut [u32], n: usize, at: u64, place: u32) -> usize
-    requires { ⌜ n < 18446744073709551615 ⌝ }
+    requires { ⌜ n < 2 ^ 64 - 1 ⌝ }
     ensures { λ r. ⌜ Keeps (now (when .entry)) (now (which .entry)) n (record { at = at; place = place } ∷ []) (now (when .exit)) (now (which .exit)) r ⌝ }
 {
     if n < when.len() {

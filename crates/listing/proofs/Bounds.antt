@@ -9,6 +9,7 @@ use lib.ListN.{length, length-append}
 use Rattle.wire.proofs.Reading.{field-below}
 use Rattle.records.specs.Layout.{Place, number}
 use Rattle.records.specs.Valid.{Bytes}
+use Rattle.records.specs.Book.{lastPhase}
 use Rattle.spans.specs.Spans.{phase, unknown}
 use Rattle.answer.specs.Forms
 use Rattle.rows.specs.Rows.{placedAt, fromAt, toAt, countAt, behindPhase, behindGap, eventOf, eventsFrom, phaseSeen, gapSeen, segments, segmentsAt, enough, goodFrom, goodRow}
@@ -58,7 +59,7 @@ module _ (s : List ℕ) (b : Bytes s) where
       let e = event-short (eventOf s at .at) (eventOf s at .code) (placed-64 Forms.eventAt at) (two-64 at (Forms.eventCode .from)) in
       omega (arith, e, events-short (at + eventSize) n, length-append (eventLine (eventOf s at)) (eventLines (eventsFrom s (at + eventSize) n)))
 
-  phase-lines : (at : ℕ) → number Forms.phasePlace s at ≤ 7 → length (segmentLines (phaseSeen s at)) ≤ 88 + 45 * countAt s at
+  phase-lines : (at : ℕ) → number Forms.phasePlace s at ≤ lastPhase → length (segmentLines (phaseSeen s at)) ≤ 88 + 45 * countAt s at
   phase-lines at h =
       let p = number Forms.phasePlace s at in
       let e = number Forms.evidencePlace s at in

@@ -18,7 +18,7 @@ use wire::signed8;
 use wire::unplace;
 
 // The most bytes of the input, and of the answer.
-const MOST_BYTES: usize = 65_536;
+pub const MOST_BYTES: usize = 65_536;
 
 // Two bytes for each of the answer's, and the first line.
 pub const TEXT_BYTES: usize = 2 * MOST_BYTES + 64;

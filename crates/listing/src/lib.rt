@@ -3,5 +3,6 @@ mod ask;
 mod lines;
 mod text;
 
+pub use ask::MOST_BYTES;
 pub use ask::TEXT_BYTES;
 pub use ask::list_text;

@@ -13,7 +13,7 @@ use Rattle.spans.specs.Spans.{Mark, phase, unknown, Span}
 use Rattle.spans.specs.Totals.{anyMark, total}
 use Rattle.answer.specs.Forms.{manyTotals}
 use Rattle.pages.specs.Rows.{rowTotals}
-use Rattle.pages.specs.Pages.{marks, kindAt, Slot, fresh, shifted, Filled, Ahead, Ordered}
+use Rattle.pages.specs.Pages.{marks, kindAt, Slot, fresh, shifted, Filled, Ahead, Ordered, unknownSlot, nowhereSlot}
 
 -- ---- the total of a list
 
@@ -66,24 +66,24 @@ small end (s ∷ ss) w k a b =
 -- ---- a row's totals
 
 -- the slot of a mark
-pub slot-small : (m : Mark) {j : ℕ} → Slot m j → j < 9
+pub slot-small : (m : Mark) {j : ℕ} → Slot m j → j < nowhereSlot
 slot-small (phase p e) s = omega (arith, s .is, s .low)
 slot-small unknown s = omega (arith, s .is)
 
 kind-slot : (m : Mark) {j : ℕ} → Slot m j → (i : ℕ) → kindAt i m ≡ eqb i j
-kind-slot (phase p e) {j} s i = go (eqb i 8) refl
+kind-slot (phase p e) {j} s i = go (eqb i unknownSlot) refl
   where
-    go : (q : Bool) → eqb i 8 ≡ q → cond q false (eqb i p) ≡ eqb i j
-    go true h = let t = eqb-true i 8 h in sym (ne-eqb i j (λ x. omega (arith, s .is, s .low)))
+    go : (q : Bool) → eqb i unknownSlot ≡ q → cond q false (eqb i p) ≡ eqb i j
+    go true h = let t = eqb-true i unknownSlot h in sym (ne-eqb i j (λ x. omega (arith, s .is, s .low)))
     go false h = ap (eqb i) (sym (s .is))
-kind-slot unknown {j} s i = go (eqb i 8) refl
+kind-slot unknown {j} s i = go (eqb i unknownSlot) refl
   where
-    go : (q : Bool) → eqb i 8 ≡ q → cond q true false ≡ eqb i j
+    go : (q : Bool) → eqb i unknownSlot ≡ q → cond q true false ≡ eqb i j
     go true h = sym (ap (eqb i) (s .is) ∙ h)
     go false h = sym (ap (eqb i) (s .is) ∙ h)
 
 -- what holds of each slot
-slots : (P : ℕ → Type 0) → P 0 → P 1 → P 2 → P 3 → P 4 → P 5 → P 6 → P 7 → P 8 → (i : ℕ) → i < 9 → P i
+slots : (P : ℕ → Type 0) → P 0 → P 1 → P 2 → P 3 → P 4 → P 5 → P 6 → P 7 → P 8 → (i : ℕ) → i < nowhereSlot → P i
 slots P p0 p1 p2 p3 p4 p5 p6 p7 p8 zero h = p0
 slots P p0 p1 p2 p3 p4 p5 p6 p7 p8 (suc zero) h = p1
 slots P p0 p1 p2 p3 p4 p5 p6 p7 p8 (suc (suc zero)) h = p2
@@ -95,10 +95,10 @@ slots P p0 p1 p2 p3 p4 p5 p6 p7 p8 (suc (suc (suc (suc (suc (suc (suc zero))))))
 slots P p0 p1 p2 p3 p4 p5 p6 p7 p8 (suc (suc (suc (suc (suc (suc (suc (suc zero)))))))) h = p8
 slots P p0 p1 p2 p3 p4 p5 p6 p7 p8 (suc (suc (suc (suc (suc (suc (suc (suc (suc i))))))))) h = absurd (omega arith)
 
-totals-at : (a b : ℕ) (ss : List (Span Mark)) (i : ℕ) → i < 9 → getD (rowTotals marks a b ss) i 0 ≡ total marks (kindAt i) a b ss
+totals-at : (a b : ℕ) (ss : List (Span Mark)) (i : ℕ) → i < nowhereSlot → getD (rowTotals marks a b ss) i 0 ≡ total marks (kindAt i) a b ss
 totals-at a b ss = slots (λ i. getD (rowTotals marks a b ss) i 0 ≡ total marks (kindAt i) a b ss) refl refl refl refl refl refl refl refl refl
 
-fresh-at : (n i : ℕ) → i < 9 → getD (fresh n) i 0 ≡ 0
+fresh-at : (n i : ℕ) → i < nowhereSlot → getD (fresh n) i 0 ≡ 0
 fresh-at n = slots (λ i. getD (fresh n) i 0 ≡ 0) refl refl refl refl refl refl refl refl refl
 
 module _ {all : List (Span Mark)} (fits : (k : Mark → Bool) (x y : ℕ) → total marks k x y all ≤ y - x) {a b : ℕ} where
@@ -114,13 +114,13 @@ module _ {all : List (Span Mark)} (fits : (k : Mark → Bool) (x y : ℕ) → to
   -- nothing is left
   pub filled-all : {left : List (Span Mark)} {row : List ℕ} → Filled all left a b row → ((k : Mark → Bool) → total marks k a b left ≡ 0)
       → row ≡ rowTotals marks a b all
-  filled-all {left} {row} w e = ext-getD 0 row (rowTotals marks a b all) (w .long) (λ i h. go i (ℕ-discrete i 9) (omega (arith, w .long)))
+  filled-all {left} {row} w e = ext-getD 0 row (rowTotals marks a b all) (w .long) (λ i h. go i (ℕ-discrete i nowhereSlot) (omega (arith, w .long)))
     where
-      go : (i : ℕ) → Dec (i ≡ 9) → i < 10 → getD row i 0 ≡ getD (rowTotals marks a b all) i 0
+      go : (i : ℕ) → Dec (i ≡ nowhereSlot) → i < manyTotals → getD row i 0 ≡ getD (rowTotals marks a b all) i 0
       go i (yes n) h = ap (λ (x : ℕ). getD row x 0) n ∙ omega (arith, w .rest, e anyMark) ∙ sym (ap (λ (x : ℕ). getD (rowTotals marks a b all) x 0) n)
       go i (no n) h = omega (arith, w .each i (below i n h), e (kindAt i)) ∙ sym (totals-at a b all i (below i n h))
         where
-          below : (x : ℕ) → (x ≡ 9 → ⊥) → x < 10 → x < 9
+          below : (x : ℕ) → (x ≡ nowhereSlot → ⊥) → x < manyTotals → x < nowhereSlot
           below x f l = omega (arith, f)
 
   -- a stretch is counted
@@ -134,7 +134,7 @@ module _ {all : List (Span Mark)} (fits : (k : Mark → Bool) (x y : ℕ) → to
     own-first : total marks (kindAt j) a b (s ∷ left) ≡ partOf a b s + total marks (kindAt j) a b left
     own-first = kind-first j ∙ ap (λ (q : Bool). cond q (partOf a b s) 0 + total marks (kindAt j) a b left) (eq-eqb j j refl)
 
-    pub takes : partOf a b s ≤ getD row 9 0
+    pub takes : partOf a b s ≤ getD row nowhereSlot 0
     takes = omega (arith, w .rest, any-first)
 
     pub gets : getD row j 0 + partOf a b s ≤ b - a
@@ -147,7 +147,7 @@ module _ {all : List (Span Mark)} (fits : (k : Mark → Bool) (x y : ℕ) → to
     grown-long : length grown ≡ manyTotals
     grown-long = length-set row j (getD row j 0 + partOf a b s) ∙ w .long
 
-    grown-each : (i : ℕ) → i < 9 → Dec (i ≡ j) → getD grown i 0 + total marks (kindAt i) a b left ≡ total marks (kindAt i) a b all
+    grown-each : (i : ℕ) → i < nowhereSlot → Dec (i ≡ j) → getD grown i 0 + total marks (kindAt i) a b left ≡ total marks (kindAt i) a b all
     grown-each i h (yes q) =
         let l = slot-small (s .body) is in
         let g = getD-set-same row j (getD row j 0 + partOf a b s) 0 (omega (arith, w .long)) in
@@ -159,11 +159,11 @@ module _ {all : List (Span Mark)} (fits : (k : Mark → Bool) (x y : ℕ) → to
 
     pub filled-one : {n : ℕ} → n ≡ partOf a b s → {row′ : List ℕ} → row′ ≡ shifted row j n → Filled all left a b row′
     filled-one e f =
-        let rest = getD row 9 0 - partOf a b s in
+        let rest = getD row nowhereSlot 0 - partOf a b s in
         rw (f, e)
         (record {
-          long = length-set grown 9 rest ∙ grown-long;
+          long = length-set grown nowhereSlot rest ∙ grown-long;
           each = λ i h.
-              ap (λ (x : ℕ). x + total marks (kindAt i) a b left) (getD-set-other grown 9 i rest 0 (λ z. omega arith)) ∙ grown-each i h (ℕ-discrete i j);
-          rest = getD-set-same grown 9 rest 0 (omega (arith, grown-long)) ∙ omega (arith, w .rest, any-first);
+              ap (λ (x : ℕ). x + total marks (kindAt i) a b left) (getD-set-other grown nowhereSlot i rest 0 (λ z. omega arith)) ∙ grown-each i h (ℕ-discrete i j);
+          rest = getD-set-same grown nowhereSlot rest 0 (omega (arith, grown-long)) ∙ omega (arith, w .rest, any-first);
         })

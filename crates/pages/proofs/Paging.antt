@@ -3,7 +3,7 @@ use mathlib.Core.Path.{_≡_, refl, sym, ap, subst, _∙_}
 use mathlib.Core.Bool.{Bool, true, false, cond}
 use mathlib.Core.List.{List, [], _∷_, _++_, map, append-assoc, append-nil}
 use mathlib.Core.Option.{Option, none, some}
-use Prim.Native.Nat.{ℕ, zero, suc, _+_, _-_, _*_, _/_, _≤_, _<_}
+use Prim.Native.Nat.{ℕ, zero, suc, _+_, _-_, _*_, _/_, _≤_, _<_, _^_}
 use native.Mathlib.Nat.{zero-add}
 use native.Mathlib.Omega.{arith}
 use borrow.Author.Tests.{lt-ltb, le-ltb, le-leb, lt-leb}
@@ -19,8 +19,8 @@ use Rattle.answer.specs.Forms.{Form, day, tally, encode, encodeAll, rowSize, ma
 use Rattle.answer.specs.Meaning.{totalsOf}
 use Rattle.answer.proofs.Readback.{encode-length}
 use Rattle.answer.proofs.Several.{one-form, encode-append, append-length}
-use Rattle.pages.specs.Rows.{rowEnd, rowsFrom, rowsOf, rowTotals, dayForm, mostNs}
-use Rattle.pages.specs.Pages.{marks, stretchOf, kindAt, Slot, fresh, shifted, Filled, Ordered, dayForms, rawForms, Paged, Standing, partOf, Sheet, sheetOf, rolled, Coming, Counted, Ending, Ended, First}
+use Rattle.pages.specs.Rows.{rowEnd, rowsFrom, rowsOf, rowTotals, dayForm, mostNs, mostRows}
+use Rattle.pages.specs.Pages.{marks, stretchOf, kindAt, Slot, fresh, shifted, Filled, Ordered, dayForms, rawForms, Paged, Standing, partOf, Sheet, sheetOf, rolled, Coming, Counted, Ending, Ended, First, unknownSlot, nowhereSlot}
 use Rattle.pages.specs.declared.Page.{Page}
 use Rattle.pages.proofs.Counting.{small, one-none, ahead-none, slot-small, filled-fresh, filled-all, filled-one, takes, gets}
 
@@ -43,7 +43,7 @@ pub record Cutting (start end count at : ℕ) : Type 0 where
   pub fuel : ℕ
   pub same : length (rowsOf start end) ≡ count + length (rowsFrom fuel end at)
   pub enough : end ≤ at + fuel * dayNs
-  pub few : count + fuel ≤ 401
+  pub few : count + fuel ≤ mostRows
 
 pub cutting-none : (start end : ℕ) → end ≤ start + mostNs → Cutting start end 0 start
 cutting-none start end h = record { fuel = (end - start) / dayNs + 1; same = sym (zero-add (length (rowsOf start end))); enough = omega arith; few = omega arith }
@@ -54,7 +54,7 @@ cutting-next {start} {end} {count} {at} c h {next} e =
     let r = rows-next (c .fuel) end at h (c .enough) in
     rw e (record { fuel = r .0; same = omega (arith, c .same, ap length (r .1)); enough = r .2; few = omega (arith, c .few, r .3) })
 
-pub cutting-end : {start end count at : ℕ} → Cutting start end count at → end ≤ at → (count ≡ length (rowsOf start end)) × (count ≤ 401)
+pub cutting-end : {start end count at : ℕ} → Cutting start end count at → end ≤ at → (count ≡ length (rowsOf start end)) × (count ≤ mostRows)
 cutting-end {start} {end} {count} {at} c h = (omega (arith, c .same, ap length (rows-none (c .fuel) end at h)), omega (arith, c .few))
 
 -- ---- bytes
@@ -117,7 +117,7 @@ module _ {all left : List (Span Mark)} {start end : ℕ} {room : List ℕ} {a b 
       w .same ∙ ap (λ (l : List Form). w .done ++ l) days ∙ sym (append-assoc (w .done) (dayOf all a b ∷ []) (dayForms all m end b))
 
   -- there is room for its record, and for the closing total behind it
-  page-behind : at + 200 ≤ length now
+  page-behind : at + 2 * rowSize ≤ length now
   page-behind =
       let r = rows-next (w .fuel) end a (w .inside) (w .enough) in
       let t = ap (λ (l : List Form). length (encodeAll l)) (next-same (r .0) (r .1)) in
@@ -142,7 +142,7 @@ module _ {all left : List (Span Mark)} {start end : ℕ} {room : List ℕ} {a b 
 module _ {all left : List (Span Mark)} {from to : ℕ} {m : Mark} {a b : ℕ} {row : List ℕ} (fits : (k : Mark → Bool) (x y : ℕ) → total marks k x y all ≤ y - x)
     (w : Filled all (stretchOf from to m ∷ left) a b row) {j n : ℕ} (is : Slot m j) (e : n ≡ partOf a b from to) where
   -- what counting it requires
-  shift-room : {most : ℕ} → b < most → (j < 9) × (n ≤ getD row 9 0) × (getD row j 0 + n < most)
+  shift-room : {most : ℕ} → b < most → (j < nowhereSlot) × (n ≤ getD row nowhereSlot 0) × (getD row j 0 + n < most)
   shift-room h = (slot-small m is, omega (arith, takes fits w is), omega (arith, gets fits w is))
 
   shift-one : {row′ : List ℕ} → row′ ≡ shifted row j n → Filled all left a b row′
@@ -235,8 +235,8 @@ module _ {now : List ℕ} {a b at : ℕ} {row : List ℕ} {end from to slot : �
 
 -- the page of a stretch that comes
 module _ {now : List ℕ} {p : Page} {start end from to slot : ℕ} {row whole : List ℕ} (c : Coming now p start end from to slot row whole) where
-  pub coming-whole : {n : ℕ} → n ≡ partOf start end from to → end < 18446744073709551616
-      → (slot < 9) × (n ≤ getD whole 9 0) × (getD whole slot 0 + n < 18446744073709551616)
+  pub coming-whole : {n : ℕ} → n ≡ partOf start end from to → end < 2 ^ 64
+      → (slot < nowhereSlot) × (n ≤ getD whole nowhereSlot 0) × (getD whole slot 0 + n < 2 ^ 64)
   coming-whole e h = shift-room (c .stands .page .small) (c .stands .closing) (c .is) e h
 
   module _ {now1 : List ℕ} {a1 b1 at1 : ℕ} {row1 : List ℕ}
@@ -245,7 +245,7 @@ module _ {now : List ℕ} {p : Page} {start end from to slot : ℕ} {row whole :
     paged = r .on (c .all) (c .left) start (c .room) (c .mark) (c .is) (c .stands .page)
 
     module _ {n : ℕ} (e : n ≡ partOf a1 b1 from to) where
-      pub coming-row : end < 18446744073709551616 → (slot < 9) × (n ≤ getD row1 9 0) × (getD row1 slot 0 + n < 18446744073709551616)
+      pub coming-row : end < 2 ^ 64 → (slot < nowhereSlot) × (n ≤ getD row1 nowhereSlot 0) × (getD row1 slot 0 + n < 2 ^ 64)
       coming-row h = shift-room (paged .small) (paged .filled) (c .is) e (omega (arith, paged .edge))
 
       module _ {row2 : List ℕ} (f : row2 ≡ shifted row1 slot n) (h : b1 < to) where
@@ -367,15 +367,15 @@ module _ (all : List (Span Mark)) {start end : ℕ} {room : List ℕ} (h : start
 
 -- ---- finishing, as the code goes
 
-pub unknown-slot : Slot unknown 8
+pub unknown-slot : Slot unknown unknownSlot
 unknown-slot = record { is = refl; low = tt }
 
 pub ending-stretch : {now : List ℕ} {p : Page} {start end : ℕ} {row whole : List ℕ} → Ending now p start end row whole
-    → Coming now p start end end end 8 row whole
+    → Coming now p start end end end unknownSlot row whole
 ending-stretch c = record { all = c .all; left = []; room = c .room; mark = unknown; is = unknown-slot; stands = one-more (c .stands) }
 
 module _ {now : List ℕ} {p : Page} {start end : ℕ} {row whole now1 : List ℕ} {p1 : Page} {row1 whole1 : List ℕ}
-    (k : Counted now p start end end end 8 row whole now1 p1 row1 whole1) where
+    (k : Counted now p start end end end unknownSlot row whole now1 p1 row1 whole1) where
   module _ (c : Ending now p start end row whole) where
     abbrev last : Standing (c .all) [] start end (c .room) now1 p1 row1 whole1
     last = k .on (c .all) [] (c .room) unknown unknown-slot (one-more (c .stands))

@@ -28,17 +28,24 @@ rawForms ss start end = formsBy marks ss start end
 
 -- ---- a row's totals as they are counted
 
--- the kind of mark that the i-th total counts, for i below 9
+-- the totals of the phases stand first, each at its number; then what lies outside coverage, and what lies in no segment
+abbrev pub unknownSlot : ℕ
+unknownSlot = 8
+
+abbrev pub nowhereSlot : ℕ
+nowhereSlot = 9
+
+-- the kind of mark that the i-th total counts, but for the last
 abbrev pub kindAt : ℕ → Mark → Bool
-kindAt i m = cond (eqb i 8) (isUnknown m) (isPhase i m)
+kindAt i m = cond (eqb i unknownSlot) (isUnknown m) (isPhase i m)
 
 -- a mark is counted at its slot; a phase is one of eight
 abbrev pub slotOf : Mark → ℕ
 slotOf (phase p e) = p
-slotOf unknown = 8
+slotOf unknown = unknownSlot
 
 abbrev pub Low : Mark → Type 0
-Low (phase p e) = p < 8
+Low (phase p e) = p < unknownSlot
 Low unknown = Unit {0}
 
 pub record Slot (m : Mark) (j : ℕ) : Type 0 where
@@ -50,13 +57,13 @@ abbrev pub fresh : ℕ → List ℕ
 fresh n = 0 ∷ 0 ∷ 0 ∷ 0 ∷ 0 ∷ 0 ∷ 0 ∷ 0 ∷ 0 ∷ n ∷ []
 
 abbrev pub shifted : List ℕ → ℕ → ℕ → List ℕ
-shifted row j n = set (set row j (getD row j 0 + n)) 9 (getD row 9 0 - n)
+shifted row j n = set (set row j (getD row j 0 + n)) nowhereSlot (getD row nowhereSlot 0 - n)
 
 -- `all` are a window's stretches, `left` those that are still to come
 pub record Filled (all left : List (Span Mark)) (a b : ℕ) (row : List ℕ) : Type 0 where
   pub long : length row ≡ manyTotals
-  pub each : (i : ℕ) → i < 9 → getD row i 0 + total marks (kindAt i) a b left ≡ total marks (kindAt i) a b all
-  pub rest : getD row 9 0 ≡ ((b - a) - total marks anyMark a b all) + total marks anyMark a b left
+  pub each : (i : ℕ) → i < nowhereSlot → getD row i 0 + total marks (kindAt i) a b left ≡ total marks (kindAt i) a b all
+  pub rest : getD row nowhereSlot 0 ≡ ((b - a) - total marks anyMark a b all) + total marks anyMark a b left
 
 -- ---- stretches in order
 

@@ -43,6 +43,12 @@ dayForm B ss r = day (totalsOf (r .start) (r .end) (rowTotals B (r .start) (r .e
 abbrev pub formsBy : {A : Type 0} → Body A → List (Span A) → ℕ → ℕ → List Form
 formsBy B ss start end = map (dayForm B ss) (rowsOf start end) ++ (tally (totalsOf start end (rowTotals B start end ss)) ∷ [])
 
--- the longest window of a tally
+-- the longest window of a tally, in days and as it is counted; its rows are fewer than so many
+abbrev pub mostDays : ℕ
+mostDays = 400
+
 abbrev pub mostNs : ℕ
-mostNs = 400 * dayNs
+mostNs = mostDays * dayNs
+
+abbrev pub mostRows : ℕ
+mostRows = suc mostDays

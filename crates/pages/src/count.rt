@@ -3,7 +3,7 @@
 ghost use Prim.Native.Nat.{_+_, _-_, _^_, _≤_, _<_};
 ghost use mathlib.Core.Path.{_≡_};
 ghost use lib.ListN.{getD};
-ghost use Rattle.pages.specs.Pages.{partOf, shifted, fresh, Coming, Counted, Ending, Ended, First};
+ghost use Rattle.pages.specs.Pages.{nowhereSlot, partOf, shifted, fresh, Coming, Counted, Ending, Ended, First};
 use crate::Page;
 use crate::UNKNOWN;
 use crate::cuts::row_end;
@@ -36,7 +36,7 @@ fn renew(row: &mut [u64; TOTALS], length: u64)
 
 // So much of it lies in segments of one kind.
 fn shift(row: &mut [u64; TOTALS], slot: usize, n: u64)
-    requires { ⌜ (slot < 9) × (n ≤ getD (now row) 9 0) × (getD (now row) slot 0 + n < 2 ^ 64) ⌝ }
+    requires { ⌜ (slot < nowhereSlot) × (n ≤ getD (now row) nowhereSlot 0) × (getD (now row) slot 0 + n < 2 ^ 64) ⌝ }
     ensures { λ r. ⌜ now (row .exit) ≡ shifted (now (row .entry)) slot n ⌝ }
 {
     let more = row[slot] + n;

@@ -3,7 +3,7 @@ ghost use Prim.Native.Nat.{_+_, _*_, _≤_};
 ghost use mathlib.Core.Path.{_≡_};
 ghost use lib.ListN.{length};
 ghost use Rattle.answer.specs.Forms.{rowSize};
-ghost use Rattle.pages.specs.Rows.{rowEnd, rowsOf, mostNs};
+ghost use Rattle.pages.specs.Rows.{rowEnd, rowsOf, mostNs, mostRows};
 use answer::ROW_SIZE;
 use zone::DAY_NS;
 
@@ -20,7 +20,7 @@ pub(crate) fn row_end(end: u64, at: u64) -> u64
 // How many rows a window has.
 fn count_rows(start: u64, end: u64) -> usize
     requires { ⌜ end ≤ start + mostNs ⌝ }
-    ensures { λ r. ⌜ (r ≡ length (rowsOf start end)) × (r ≤ 401) ⌝ }
+    ensures { λ r. ⌜ (r ≡ length (rowsOf start end)) × (r ≤ mostRows) ⌝ }
 {
     let mut count: usize = 0;
     let mut at = start;

@@ -11,7 +11,7 @@ use Rattle.wire.proofs.Reading.{field-below}
 use Rattle.records.specs.Layout.{number, kind, size, ruleEvidence}
 use Rattle.records.specs.Limits.{base}
 use Rattle.records.specs.Records.{Coverage, Rule, put, putSigned}
-use Rattle.records.specs.Book.{refusal, records}
+use Rattle.records.specs.Book.{refusal, records, lastPhase}
 use Rattle.records.specs.Valid.{Bytes}
 use Rattle.records.proofs.Laid.{span, laid-length, laid-says}
 use Rattle.venue.specs.Opening.{coverageOf}
@@ -20,7 +20,7 @@ use Rattle.day.specs.Days.{Held, valuesOf, pointOf}
 use Rattle.day.proofs.Theorems.{point-whole}
 use Rattle.day.proofs.Listed.{governing-listed, source-good, span-under}
 use Rattle.answer.specs.Forms as Forms
-use Rattle.answer.specs.Forms.{Missing, fieldsOf, phasePlace, evidencePlace, encode, encodeAll, phaseKind}
+use Rattle.answer.specs.Forms.{Missing, fieldsOf, phasePlace, evidencePlace, encode, encodeAll, phaseKind, phaseLength, missingKind, missingLength}
 use Rattle.zone.specs.Units.{instantOf}
 use Rattle.point.specs.Asking.{byPoint, byCoverage, pointAnswer}
 use Rattle.point.specs.Said.{pointMark, pointSaid}
@@ -52,11 +52,11 @@ module _ (p : Forms.Phase) (after : List ℕ) where
   known = encode (Forms.phase p) ++ after
 
   abbrev before : List Field
-  before = put size 103 ∷ put kind 16 ∷ putSigned w64 Forms.start (p .start) ∷ putSigned w64 Forms.end (p .end) ∷ []
+  before = put size phaseLength ∷ put kind phaseKind ∷ putSigned w64 Forms.start (p .start) ∷ putSigned w64 Forms.end (p .end) ∷ []
 
   known-kind : number kind known 0 ≡ phaseKind
   unfolding encode
-  known-kind = one-field (put size 103 ∷ []) (put kind 16) (fieldsOf (Forms.phase p)) after (omega arith)
+  known-kind = one-field (put size phaseLength ∷ []) (put kind phaseKind) (fieldsOf (Forms.phase p)) after (omega arith)
 
   module _ (a : p .phase < 2 ^ 8) (b : p .evidence < 2 ^ 16) where
     known-phase : number phasePlace known 0 ≡ p .phase
@@ -78,8 +78,8 @@ module _ (p : Forms.Phase) (after : List ℕ) where
 missing-said : (m : Missing) (after : List ℕ) → pointSaid (encode (Forms.point m) ++ after) ≡ none
 unfolding pointSaid encode
 missing-said m after =
-    let k : number kind (encode (Forms.point m) ++ after) 0 ≡ 19 =
-    one-field (put size 27 ∷ []) (put kind 19) (fieldsOf (Forms.point m)) after (omega arith) in
+    let k : number kind (encode (Forms.point m) ++ after) 0 ≡ missingKind =
+    one-field (put size missingLength ∷ []) (put kind missingKind) (fieldsOf (Forms.point m)) after (omega arith) in
     rw k refl
 
 -- ---- a known point of an accepted book fits its fields
@@ -93,7 +93,7 @@ held-narrow s b e c t h q =
     let u = span-under (v .zone) (v .governing) (w .span) (w .date) (λ r g. source-good s r (governing-listed s e (w .date) r g) .each) (w .one) in
     let k = governing-listed s e (w .date) (u .0) (u .1) in
     let small = field-below 2 s (k .place + ruleEvidence .from) b in
-    let phased = subst (λ (x : Held). x .phase ≤ 7) (w .is) (u .2 .phase) in
+    let phased = subst (λ (x : Held). x .phase ≤ lastPhase) (w .is) (u .2 .phase) in
     let ruled : h .rule ≡ u .0 = ap (λ (x : Held). x .rule) (sym (w .is)) ∙ u .2 .rule in
     (omega arith, subst (λ (r : Rule). r .evidence < 2 ^ 16) (k .is ∙ sym ruled) (omega arith))
 

@@ -14,20 +14,20 @@ use mir.ValLaws.{toZ-ofZ}
 use Rattle.wire.specs.Signs.{half, placed, meant}
 use Rattle.wire.proofs.Signs.{and-true, meant-placed, since-meant}
 use Rattle.calendar.specs.Answers.{zeroDay}
-use Rattle.zone.specs.Units.{secondNs, dayNs, instantNumber, instantOf}
+use Rattle.zone.specs.Units.{dayNs, instantNumber, instantOf}
 use Rattle.zone.specs.declared.Instant.{Instant}
 use Rattle.zone.proofs.Domain.{instantZero, instant-placed}
-use Rattle.records.specs.Book.{inside, instants}
+use Rattle.records.specs.Book.{inside, instants, instantsBefore, instantsAfter}
 use Rattle.records.proofs.Tests.{outside-test, inside-range}
 use Rattle.query.specs.Judging.{queried, instantRefusal}
 use Rattle.query.specs.declared.Asked.{Asked}
 use Rattle.query.specs.declared.Asked.the-variants.{Outside, At}
 
 abbrev low : ℕ
-low = half w64 - 2177452800 * secondNs
+low = half w64 - instantsBefore
 
 abbrev high : ℕ
-high = half w64 + 7226582400 * secondNs
+high = half w64 + instantsAfter
 
 not-true : (b : Bool) → true ≡ not b → b ≡ false
 not-true true e = e
@@ -92,9 +92,9 @@ module _ (n : ℤ) (f : SFits w64 n) {r : Asked} (e : queried r ≡ answerTo (to
 -- ---- a number in range
 
 in-fits : (n : ℤ) → inside instants n ≡ true → SFits w64 n
-in-fits (pos k) t = record { sfits = omega (arith, leb-true k (7226582400 * secondNs) (and-true (leZ (instants .low) (pos k)) (leZ (pos k) (instants .high)) t .1)) }
+in-fits (pos k) t = record { sfits = omega (arith, leb-true k instantsAfter (and-true (leZ (instants .low) (pos k)) (leZ (pos k) (instants .high)) t .1)) }
 in-fits (negsuc k) t =
-    record { sfits = omega (arith, leb-true k (2177452800 * secondNs - 1) (and-true (leZ (instants .low) (negsuc k)) (leZ (negsuc k) (instants .high)) t .0)) }
+    record { sfits = omega (arith, leb-true k (instantsBefore - 1) (and-true (leZ (instants .low) (negsuc k)) (leZ (negsuc k) (instants .high)) t .0)) }
 
 module _ (n : ℤ) (t : inside instants n ≡ true) where
   back : meant w64 (placed w64 n) ≡ n

@@ -13,7 +13,8 @@ use lib.IntN.{ℤ, pos, negsuc, _+ℤ_}
 use lib.Signed.{ltZ, leZ}
 use Rattle.records.specs.Limits.{Limits}
 use Rattle.records.specs.Records.{Record, coverage, transition, rule, event, kindOf}
-use Rattle.records.specs.Book.{headless, many, most, lastInstant, closer, spacing, tooMany, tooClose}
+use Rattle.zone.specs.Units.{spacing}
+use Rattle.records.specs.Book.{headless, many, most, lastInstant, closer, tooMany, tooClose}
 use Rattle.records.specs.Valid.{Fits, AllSound, Headed, instantsOf, Spaced, Valid}
 use Rattle.records.proofs.Cascade.{Passed}
 use Rattle.records.specs.Layout.{coverageKind}

@@ -185,13 +185,13 @@ module _ (s : List ℕ) (at k : ℕ) (f : Framed s at) (e : k ≡ kindAt s at) w
       go (three i) = absurd (c i)
       go (four i) = i
 
--- a point or a time has 8 bytes at least, a point 9
-pub step-least : (k : ℕ) → 8 ≤ step k
+-- a point takes no less than a time
+pub step-least : (k : ℕ) → step eventKind ≤ step k
 step-least k = go (isRule k)
   where
-    go : (b : Bool) → 8 ≤ cond b 9 8
+    go : (b : Bool) → step eventKind ≤ cond b (step ruleKind) (step eventKind)
     go true = omega arith
     go false = omega arith
 
-pub step-rule : (k : ℕ) → isRule k ≡ true → step k ≡ 9
+pub step-rule : (k : ℕ) → isRule k ≡ true → step k ≡ step ruleKind
 step-rule k i = rw i

@@ -15,7 +15,7 @@ use mir.ValLaws.{ofZ-fits}
 use Rattle.wire.proofs.Signs.{and-true}
 use Rattle.records.specs.Limits.{Limits}
 use Rattle.records.specs.Records.{Published, Point, Rule, Record, coverage, transition, rule, event, pointFields, timeFields, body}
-use Rattle.records.specs.Book.{Range, inside, instants, seconds, offsets, days, widths, any, badUncertainty, badDays, badRule, badTime, badPoint, badFields, outside}
+use Rattle.records.specs.Book.{Range, inside, instants, seconds, offsets, days, widths, any, badUncertainty, badDays, badRule, badTime, badPoint, badFields, outside, lastCode, lastMask, lastPhase, lastPublished}
 use Rattle.records.specs.Valid.{Fits, Countable}
 use Rattle.records.proofs.Tests.{or-false}
 use Rattle.records.proofs.Laid.{Narrow}
@@ -63,7 +63,7 @@ points-narrow : (ps : List Point) → any badPoint ps ≡ false → Narrow (poin
 points-narrow [] e = tt
 points-narrow (p ∷ ps) e =
     let both = or-false (badPoint p) (any badPoint ps) e in
-    let here = or-false (badTime (p .time)) (ltb 7 (p .phase)) (both .0) in
+    let here = or-false (badTime (p .time)) (ltb lastPhase (p .phase)) (both .0) in
     let t = leb-false _ (p .time) (here .0) in
     let f = ltb-false 7 (p .phase) (here .1) in
     (omega arith, (omega arith, points-narrow ps (both .1)))
@@ -77,10 +77,10 @@ times-narrow (t ∷ ts) e =
 
 -- ---- parts of records
 
-uncertainty-fits : (u : Published) → badUncertainty u ≡ false → (u .tag ≤ 3) × SFits w64 (u .nanoseconds)
+uncertainty-fits : (u : Published) → badUncertainty u ≡ false → (u .tag ≤ lastPublished) × SFits w64 (u .nanoseconds)
 uncertainty-fits u e =
-    let a = or-false (ltb 3 (u .tag) || not (inside widths (u .nanoseconds))) _ e in
-    let b = or-false (ltb 3 (u .tag)) (not (inside widths (u .nanoseconds))) (a .0) in
+    let a = or-false (ltb lastPublished (u .tag) || not (inside widths (u .nanoseconds))) _ e in
+    let b = or-false (ltb lastPublished (u .tag)) (not (inside widths (u .nanoseconds))) (a .0) in
     (ltb-false 3 (u .tag) (b .0), width-fits (u .nanoseconds) (b .1))
 
 days-fit : (first last : ℤ) → badDays first last ≡ false → SFits w32 first × SFits w32 last
@@ -91,16 +91,16 @@ days-fit first last e =
 record RuleFits (r : Rule) : Type 0 where
   first : SFits w32 (r .first)
   last : SFits w32 (r .last)
-  code : r .code ≤ 3
-  mask : r .mask ≤ 127
-  tag : r .uncertainty .tag ≤ 3
+  code : r .code ≤ lastCode
+  mask : r .mask ≤ lastMask
+  tag : r .uncertainty .tag ≤ lastPublished
   width : SFits w64 (r .uncertainty .nanoseconds)
 
 rule-fits : (r : Rule) → badRule r ≡ false → RuleFits r
 rule-fits r e =
-    let a = or-false ((badDays (r .first) (r .last) || ltb 3 (r .code)) || ltb 127 (r .mask)) _ e in
-    let b = or-false (badDays (r .first) (r .last) || ltb 3 (r .code)) (ltb 127 (r .mask)) (a .0) in
-    let c = or-false (badDays (r .first) (r .last)) (ltb 3 (r .code)) (b .0) in
+    let a = or-false ((badDays (r .first) (r .last) || ltb lastCode (r .code)) || ltb lastMask (r .mask)) _ e in
+    let b = or-false (badDays (r .first) (r .last) || ltb lastCode (r .code)) (ltb lastMask (r .mask)) (a .0) in
+    let c = or-false (badDays (r .first) (r .last)) (ltb lastCode (r .code)) (b .0) in
     let day = days-fit (r .first) (r .last) (c .0) in
     let o = (eqb (r .code) 0 && not (eqb (r .label) 0)) || (not (eqb (r .code) 0) && not (eqb (r .mask) 0)) in
     let d = or-false o (badUncertainty (r .uncertainty)) (a .1) in
@@ -109,7 +109,7 @@ rule-fits r e =
       first = day .0;
       last = day .1;
       code = ltb-false 3 (r .code) (c .1);
-      mask = ltb-false 127 (r .mask) (b .1);
+      mask = ltb-false lastMask (r .mask) (b .1);
       tag = u .0;
       width = u .1;
     }

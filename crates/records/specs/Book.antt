@@ -7,7 +7,8 @@ use lib.Dec.{ltb, leb, eqb}
 use lib.IntN.{ℤ, pos, subℕ, _+ℤ_}
 use lib.ListN.{length}
 use lib.Signed.{ltZ, leZ}
-use Rattle.zone.specs.Units.{secondNs, dayNs}
+use Rattle.calendar.specs.Answers.{firstDay, lastDay, meaning}
+use Rattle.zone.specs.Units.{secondNs, dayNs, mostOffset, spacing}
 use Rattle.records.specs.Layout
 use Rattle.records.specs.Layout.{number, size, kind, by, coverageKind, eventKind, headSize, lengthOf}
 use Rattle.records.specs.Limits.{Limits}
@@ -22,28 +23,54 @@ pub record Range : Type 0 where
 abbrev pub inside : Range → ℤ → Bool
 inside r n = leZ (r .low) n && leZ n (r .high)
 
--- queries and coverage, in nanoseconds: 1901-01-01Z to 2199-01-01Z
+-- queries and coverage, in nanoseconds before and after 1970: 1901-01-01Z to 2199-01-01Z
+abbrev pub instantsBefore : ℕ
+instantsBefore = 2177452800 * secondNs
+
+abbrev pub instantsAfter : ℕ
+instantsAfter = 7226582400 * secondNs
+
 abbrev pub instants : Range
-instants = record { low = subℕ 0 (2177452800 * secondNs); high = pos (7226582400 * secondNs) }
+instants = record { low = subℕ 0 instantsBefore; high = pos instantsAfter }
 
--- transitions, in seconds: 1900-01-01Z to 2200-01-01Z
+-- transitions, in seconds before and after 1970: 1900-01-01Z to 2200-01-01Z
+abbrev pub secondsBefore : ℕ
+secondsBefore = 2208988800
+
+abbrev pub secondsAfter : ℕ
+secondsAfter = 7258118400
+
 abbrev pub seconds : Range
-seconds = record { low = subℕ 0 2208988800; high = pos 7258118400 }
+seconds = record { low = subℕ 0 secondsBefore; high = pos secondsAfter }
 
--- an offset, in seconds
+-- an offset, in seconds: -57,600 to 57,600
 abbrev pub offsets : Range
-offsets = record { low = subℕ 0 57600; high = pos 57600 }
+offsets = record { low = subℕ 0 mostOffset; high = pos mostOffset }
 
--- day numbers: 1900-01-01 to 2199-12-31
+-- day numbers: 1900-01-01 to 2199-12-31, -25,567 to 84,005
 abbrev pub days : Range
-days = record { low = subℕ 0 25567; high = pos 84005 }
+days = record { low = meaning firstDay; high = meaning lastDay }
+
+-- the width of an uncertainty, in nanoseconds
+abbrev pub mostWidth : ℕ
+mostWidth = 10 ^ 15
 
 abbrev pub widths : Range
-widths = record { low = pos 0; high = pos (10 ^ 15) }
+widths = record { low = pos 0; high = pos mostWidth }
 
--- transitions stand at least so many seconds apart
-abbrev pub spacing : ℕ
-spacing = 172800
+-- ---- the last of what is listed: tags of uncertainties that a book may state, codes of rules, their masks (a bit for each weekday), phases
+
+abbrev pub lastPublished : ℕ
+lastPublished = 3
+
+abbrev pub lastCode : ℕ
+lastCode = 3
+
+abbrev pub lastMask : ℕ
+lastMask = 127
+
+abbrev pub lastPhase : ℕ
+lastPhase = 7
 
 abbrev pub any : {A : Type 0} → (A → Bool) → List A → Bool
 any test [] = false
@@ -55,7 +82,7 @@ abbrev pub kindAt : List ℕ → ℕ → ℕ
 kindAt s at = number kind s at
 
 abbrev pub nextAt : List ℕ → ℕ → ℕ
-nextAt s at = at + 2 + number size s at
+nextAt s at = at + size .width + number size s at
 
 unfoldable pub badFrame : List ℕ → ℕ → Bool
 badFrame s at =
@@ -83,7 +110,7 @@ tooMany l before r = leb (most l (kindOf r)) (many (kindOf r) before)
 -- tag 0 exact, 1 granularity, 2 bound, 3 process start; nanoseconds 0 for tags 0 and 3; text 0 for 0 and 1
 abbrev pub badUncertainty : Published → Bool
 badUncertainty u =
-    (ltb 3 (u .tag) || not (inside widths (u .nanoseconds)))
+    (ltb lastPublished (u .tag) || not (inside widths (u .nanoseconds)))
     || (((eqb (u .tag) 0 || eqb (u .tag) 3) && not (leZ (u .nanoseconds) (pos 0))) || (ltb (u .tag) 2 && not (eqb (u .text) 0)))
 
 abbrev pub badDays : ℤ → ℤ → Bool
@@ -92,14 +119,14 @@ badDays first last = not (inside days first) || not (inside days last)
 -- a weekly rule has label 0; another has mask 0
 abbrev pub badRule : Rule → Bool
 badRule r =
-    ((badDays (r .first) (r .last) || ltb 3 (r .code)) || ltb 127 (r .mask))
+    ((badDays (r .first) (r .last) || ltb lastCode (r .code)) || ltb lastMask (r .mask))
     || (((eqb (r .code) 0 && not (eqb (r .label) 0)) || (not (eqb (r .code) 0) && not (eqb (r .mask) 0))) || badUncertainty (r .uncertainty))
 
 abbrev pub badTime : ℕ → Bool
 badTime t = leb dayNs t
 
 abbrev pub badPoint : Point → Bool
-badPoint p = badTime (p .time) || ltb 7 (p .phase)
+badPoint p = badTime (p .time) || ltb lastPhase (p .phase)
 
 -- the fields of a record, and its points or times
 unfoldable pub badFields : Limits → Record → Bool

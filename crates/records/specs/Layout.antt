@@ -134,13 +134,13 @@ phase k = then (time k) 1
 
 -- from one of the n to the next
 abbrev pub step : ℕ → ℕ
-step k = cond (isRule k) 9 8
+step k = cond (isRule k) ((time k) .width + (phase k) .width) ((time k) .width)
 
 -- ---- lengths
 
 -- L, of what follows it: with n points or times
 abbrev pub lengthOf : ℕ → ℕ → ℕ
-lengthOf k n = by k 22 14 (30 + 9 * n) (26 + 8 * n)
+lengthOf k n = by k 22 14 (30 + step ruleKind * n) (26 + step eventKind * n)
 
 -- all bytes of coverage, and of a transition
 abbrev pub coverageSize : ℕ

@@ -6,9 +6,10 @@ use mathlib.Core.List.{List, [], _∷_}
 use lib.IntN.{ℤ, pos, _+ℤ_}
 use lib.ListN.{length, getD}
 use lib.Signed.{leZ}
+use Rattle.zone.specs.Units.{spacing}
 use Rattle.records.specs.Limits.{Limits}
 use Rattle.records.specs.Records.{Rule, Event, Record, coverage, transition, rule, event, kindOf, encodeAll}
-use Rattle.records.specs.Book.{spacing, many, most, outside, lateStart, falling, reversed, coversNothing}
+use Rattle.records.specs.Book.{many, most, outside, lateStart, falling, reversed, coversNothing}
 use Rattle.records.specs.Layout.{coverageKind}
 
 -- every element is a byte

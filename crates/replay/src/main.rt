@@ -1,7 +1,9 @@
 // Asks the port again what the original Rust was asked, from a fixed list. It compares the reply's number, its length and every byte of the
 // room, and prints how many it met of each number and kind of answer and how many differed. `tools/compare list` makes the list, and
 // oracle/compare/src/list.rs says how.
-ghost use Prim.Native.Nat.{_≤_};
+ghost use Prim.Native.Nat.{_^_, _≤_, _<_};
+use answer::MISSING_KIND;
+use answer::PHASE_KIND;
 use board::cells_answer;
 use cases::ZERO;
 use cases::met;
@@ -13,9 +15,11 @@ use classes::count_answer;
 use lend::Reply;
 use lend::refused;
 use point::point_answer;
+use records::KIND;
 use tally::tally_answer;
 use timeline::window_answer;
 use wire::Placed;
+use wire::get2;
 use wire::get4;
 use wire::get8;
 use wire::unplace;
@@ -72,7 +76,7 @@ struct Query {
 
 // A number of the list, none above 2^32.
 fn count(p: Placed) -> usize
-    ensures { λ r. ⌜ r ≤ 4294967295 ⌝ }
+    ensures { λ r. ⌜ r < 2 ^ 32 ⌝ }
 {
     let n = p.0;
     if n < ZERO {
@@ -207,13 +211,17 @@ fn kind_place(entry: u8, answer: &[u8]) -> u8 {
     if 1 < entry {
         return ENTRIES + entry;
     }
-    if answer.len() < 4 {
+    if answer.len() < records::HEAD {
         return NO_ANSWER;
     }
-    match answer[2] {
-        16 => KNOWN,
-        19 => UNKNOWN,
-        _ => STRANGE,
+    let kind = get2(answer, KIND);
+    if kind == PHASE_KIND {
+        return KNOWN;
+    }
+    if kind == MISSING_KIND {
+        UNKNOWN
+    } else {
+        STRANGE
     }
 }
 
@@ -231,7 +239,7 @@ fn query_of(list: &[u8], entry: u8) -> Query {
 
 // A query of a book of zeros. It answers how many bytes the record has.
 fn compare_zeros(list: &[u8], entry: u8, counts: &mut [u64]) -> usize
-    ensures { λ r. ⌜ (1 ≤ r) × (r ≤ 8589934671) ⌝ }
+    ensures { λ r. ⌜ (1 ≤ r) × (r < 2 ^ 34) ⌝ }
 {
     let expected = count(number(list, 0, 0));
     let to = HEAD + count(number(list, 0, 1));
@@ -253,7 +261,7 @@ fn compare_zeros(list: &[u8], entry: u8, counts: &mut [u64]) -> usize
 
 // A query of a book that the record holds.
 fn compare_book(list: &[u8], entry: u8, counts: &mut [u64]) -> usize
-    ensures { λ r. ⌜ (1 ≤ r) × (r ≤ 8589934671) ⌝ }
+    ensures { λ r. ⌜ (1 ≤ r) × (r < 2 ^ 34) ⌝ }
 {
     let expected = count(number(list, 0, 0));
     let from = HEAD + count(number(list, 0, 2));
@@ -281,7 +289,7 @@ fn compare_book(list: &[u8], entry: u8, counts: &mut [u64]) -> usize
 
 // Asks what the first record of a list asks, and answers how many bytes the record has. A byte that is no kind is one of its own.
 fn compare(list: &[u8], kind: u8, counts: &mut [u64]) -> usize
-    ensures { λ r. ⌜ (1 ≤ r) × (r ≤ 8589934671) ⌝ }
+    ensures { λ r. ⌜ (1 ≤ r) × (r < 2 ^ 34) ⌝ }
 {
     if kind == 0 {
         return 1;

@@ -2,7 +2,7 @@
 use mathlib.Core.Path.{_≡_, sym, ap, ap₂, _∙_}
 use mathlib.Core.Bool.{Bool, true, false, _&&_, _||_}
 use mathlib.Core.List.{List}
-use Prim.Native.Nat.{ℕ, _+_, _-_, _*_, _≤_, _<_}
+use Prim.Native.Nat.{ℕ, _+_, _-_, _*_, _^_, _≤_, _<_}
 use native.Mathlib.Omega.{arith}
 use native.Mathlib.Decide.{ℕ-discrete}
 use borrow.Author.Tests.{le-leb, lt-leb, le-ltb, lt-ltb, eq-eqb, ne-eqb}
@@ -10,7 +10,7 @@ use lib.Dec.{ltb, leb, eqb}
 use lib.ListN.{length}
 use Rattle.wire.specs.Fields.{field}
 use Rattle.wire.specs.declared.sign.Placed.{Placed}
-use Rattle.records.specs.Layout.{number, kind}
+use Rattle.records.specs.Layout.{size, number, kind}
 use Rattle.records.proofs.Frames.{size-by}
 use Rattle.answer.specs.Forms
 use Rattle.answer.specs.Forms.{phaseKind, phaseLength, gapKind, gapLength, eventKind, eventLength, markKind, markLength, phaseSize, gapSize}
@@ -19,26 +19,26 @@ use Rattle.rows.specs.Telling.{segmentOf, standsAt}
 use Rattle.rows.specs.declared.Shows.the-variants.{Phase, Unknown}
 use Rattle.rows.specs.declared.Stands.the-variants as Stands
 
-at-once : (z y l k : ℕ) → z < 65536 → l < 65536 → eqb (z + 65536 * y) (l + 65536 * k) ≡ (eqb z l && eqb y k)
+at-once : (z y l k : ℕ) → z < 2 ^ 16 → l < 2 ^ 16 → eqb (z + 2 ^ 16 * y) (l + 2 ^ 16 * k) ≡ (eqb z l && eqb y k)
 at-once z y l k u v = go (ℕ-discrete z l) (ℕ-discrete y k)
   where
-    go : Dec (z ≡ l) → Dec (y ≡ k) → eqb (z + 65536 * y) (l + 65536 * k) ≡ (eqb z l && eqb y k)
-    go (yes a) (yes b) = simp (eq-eqb (z + 65536 * y) (l + 65536 * k) (omega arith), eq-eqb z l a, eq-eqb y k b)
-    go (yes a) (no b) = simp (ne-eqb (z + 65536 * y) (l + 65536 * k) (λ e. b (omega arith)), ne-eqb y k b, eq-eqb z l a)
-    go (no a) d = simp (ne-eqb (z + 65536 * y) (l + 65536 * k) (λ e. a (omega arith)), ne-eqb z l a)
+    go : Dec (z ≡ l) → Dec (y ≡ k) → eqb (z + 2 ^ 16 * y) (l + 2 ^ 16 * k) ≡ (eqb z l && eqb y k)
+    go (yes a) (yes b) = simp (eq-eqb (z + 2 ^ 16 * y) (l + 2 ^ 16 * k) (omega arith), eq-eqb z l a, eq-eqb y k b)
+    go (yes a) (no b) = simp (ne-eqb (z + 2 ^ 16 * y) (l + 2 ^ 16 * k) (λ e. b (omega arith)), ne-eqb y k b, eq-eqb z l a)
+    go (no a) d = simp (ne-eqb (z + 2 ^ 16 * y) (l + 2 ^ 16 * k) (λ e. a (omega arith)), ne-eqb z l a)
 
 module _ (s : List ℕ) (at : ℕ) where
-  pub framed-short : (k l : ℕ) → at ≤ length s → length s - at < 2 + l → false ≡ framed k l s at
-  framed-short k l i h = let z : length s < at + 2 + l = omega arith in simp (lt-leb (at + 2 + l) (length s) z)
+  pub framed-short : (k l : ℕ) → at ≤ length s → length s - at < size .width + l → false ≡ framed k l s at
+  framed-short k l i h = let z : length s < at + size .width + l = omega arith in simp (lt-leb (at + size .width + l) (length s) z)
 
-  pub framed-by : (k l z y : ℕ) → at ≤ length s → 2 + l ≤ length s - at → z ≡ field 2 s at → y ≡ number kind s at → (eqb z l && eqb y k) ≡ framed k l s at
+  pub framed-by : (k l z y : ℕ) → at ≤ length s → size .width + l ≤ length s - at → z ≡ field 2 s at → y ≡ number kind s at → (eqb z l && eqb y k) ≡ framed k l s at
   framed-by k l z y i h a b =
-      let w : at + 2 + l ≤ length s = omega arith in
-      rw (size-by s at z a, b) (simp (le-leb (at + 2 + l) (length s) w))
+      let w : at + size .width + l ≤ length s = omega arith in
+      rw (size-by s at z a, b) (simp (le-leb (at + size .width + l) (length s) w))
 
   -- the two compared as one number
-  pub framed-at-once : (k l z y : ℕ) → at ≤ length s → 2 + l ≤ length s - at → z ≡ field 2 s at → y ≡ number kind s at → z < 65536 → l < 65536
-      → eqb (z + 65536 * y) (l + 65536 * k) ≡ framed k l s at
+  pub framed-at-once : (k l z y : ℕ) → at ≤ length s → size .width + l ≤ length s - at → z ≡ field 2 s at → y ≡ number kind s at → z < 2 ^ 16 → l < 2 ^ 16
+      → eqb (z + 2 ^ 16 * y) (l + 2 ^ 16 * k) ≡ framed k l s at
   framed-at-once k l z y i h a b u v = at-once z y l k u v ∙ framed-by k l z y i h a b
 
   pub phase-unframed : framed phaseKind phaseLength s at ≡ false → false ≡ goodPhase s at

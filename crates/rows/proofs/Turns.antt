@@ -9,6 +9,7 @@ use lib.Dec.{leb, eqb}
 use lib.ListN.{length}
 use Rattle.wire.proofs.Signs.{and-true}
 use Rattle.records.specs.Layout.{number, size, kind}
+use Rattle.records.specs.Book.{lastPhase}
 use Rattle.answer.specs.Forms
 use Rattle.answer.specs.Forms.{phaseKind, phaseLength, gapKind, gapLength, eventKind, eventLength, markKind, markLength, phaseSize, gapSize, eventSize, markSize}
 use Rattle.rows.specs.Rows.{fromAt, toAt, countAt, behindPhase, behindGap, behindMark, framed, tagged, notEmpty}
@@ -29,7 +30,7 @@ module _ (s : List ℕ) (at : ℕ) where
   pub record PhaseHolds : Type 0 where
     pub whole : at + phaseSize ≤ length s
     pub kind : number kind s at ≡ phaseKind
-    pub listed : number Forms.phasePlace s at ≤ 7
+    pub listed : number Forms.phasePlace s at ≤ lastPhase
     pub forward : fromAt s at < toAt s at
 
   pub phase-holds : goodPhase s at ≡ true → PhaseHolds

@@ -21,7 +21,7 @@ use Rattle.answer.specs.Forms.{Form, phase, unknown, event, point, mark, day, t
 use Rattle.answer.specs.Fitting.{Fitting}
 use Rattle.answer.proofs.Readback.{encode-length, reads-back, fitting-narrow, fitting-sized}
 use Rattle.rows.specs.Rows.{Event, placedAt, fromAt, toAt, countAt, framed, enough, eventOf, eventsFrom, segmentsAt, segments}
-use Rattle.rows.specs.Rows.{goodPhase, goodGap, goodEvent, goodEvents, goodFrom, goodRow}
+use Rattle.rows.specs.Rows.{goodPhase, goodGap, goodEvent, goodEvents, goodFrom, goodRow, lastTag}
 use Rattle.rows.specs.Written.{instant, GoodPhase, GoodGap, GoodEvent, Owing, RowFrom, eventSaid, eventsOf, seenOf}
 use Rattle.rows.proofs.Turns.{phase-holds, gap-holds, at-end, phase-on, gap-on}
 use Rattle.rows.proofs.Places.{segments-end, segments-phase, segments-gap}
@@ -59,11 +59,11 @@ module _ (s : List ℕ) (at : ℕ) where
   phase-is p least g h (z, (k, (a, (b, (c, (d, (l, (e, (r, (i, u)))))))))) =
       let from = placed-is Forms.start (p .start) (g .fits .start) a in
       let to = placed-is Forms.end (p .end) (g .fits .end) b in
-      let f = small (Forms.tagBehind Forms.fromPlace) (p .from .uncertainty .tag) 5 (u .0) (g .from) in
+      let f = small (Forms.tagBehind Forms.fromPlace) (p .from .uncertainty .tag) lastTag (u .0) (g .from) in
       let v = u .1 .1 .1 .1 .1 in
-      let t = small (Forms.tagBehind Forms.toPlace) (p .to .uncertainty .tag) 5 (v .0) (g .to) in
+      let t = small (Forms.tagBehind Forms.toPlace) (p .to .uncertainty .tag) lastTag (v .0) (g .to) in
       let x = v .1 .1 .1 .1 in
-      let w = small (Forms.tagBehind Forms.wholeBefore) (p .whole .tag) 5 (x .0) (g .whole) in
+      let w = small (Forms.tagBehind Forms.wholeBefore) (p .whole .tag) lastTag (x .0) (g .whole) in
       let forward : fromAt s at < toAt s at = rw (from, to) (g .forward) in
       record {
         good = both (both (both (framed-is phaseKind phaseLength h z k) (small Forms.phasePlace (p .phase) 7 c (g .phase))) (small Forms.codePlace (p .code) 3 d (g .code)))
@@ -101,7 +101,7 @@ module _ (s : List ℕ) (at : ℕ) where
   unfolding goodEvent
   event-is e g h (z, (k, (c, (a, u)))) =
       let i = placed-is Forms.eventAt (e .at) (g .fits .at) a in (
-        both (framed-is eventKind eventLength h z k) (small (Forms.tagBehind Forms.eventAt) (e .uncertainty .tag) 5 (u .0) (g .tag)),
+        both (framed-is eventKind eventLength h z k) (small (Forms.tagBehind Forms.eventAt) (e .uncertainty .tag) lastTag (u .0) (g .tag)),
         ap₂ (λ (x y : ℕ). record { at = x; code = y }) i c,
       )
 

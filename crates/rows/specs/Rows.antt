@@ -13,6 +13,7 @@ use Rattle.answer.specs.Forms
 use Rattle.answer.specs.Forms.{phaseKind, phaseLength, gapKind, gapLength, eventKind, eventLength, markKind, markLength, phaseSize, gapSize, eventSize, markSize}
 use mathlib.Core.Option.{Option}
 use lib.IntN.{ℤ}
+use Rattle.records.specs.Book.{lastPhase, lastCode}
 
 -- ---- the fields of a record at `at`
 
@@ -44,18 +45,21 @@ behindMark at = at + markSize
 
 -- a record of the kind k with the length l stands whole at `at`
 abbrev pub framed : ℕ → ℕ → List ℕ → ℕ → Bool
-framed k l s at = (leb (at + 2 + l) (length s) && eqb (number size s at) l) && eqb (number kind s at) k
+framed k l s at = (leb (at + size .width + l) (length s) && eqb (number size s at) l) && eqb (number kind s at) k
 
--- an uncertainty behind a place has a tag of the list 0 to 5
+-- an uncertainty behind a place has a tag of the list: those that a book may state, ambiguous and nonexistent local time
+abbrev pub lastTag : ℕ
+lastTag = 5
+
 abbrev pub tagged : Place → List ℕ → ℕ → Bool
-tagged p s at = leb (number (Forms.tagBehind p) s at) 5
+tagged p s at = leb (number (Forms.tagBehind p) s at) lastTag
 
 abbrev pub notEmpty : List ℕ → ℕ → Bool
 notEmpty s at = ltb (fromAt s at) (toAt s at)
 
 unfoldable pub goodPhase : List ℕ → ℕ → Bool
 goodPhase s at =
-    ((framed phaseKind phaseLength s at && leb (number Forms.phasePlace s at) 7) && leb (number Forms.codePlace s at) 3)
+    ((framed phaseKind phaseLength s at && leb (number Forms.phasePlace s at) lastPhase) && leb (number Forms.codePlace s at) lastCode)
     && (((tagged Forms.fromPlace s at && tagged Forms.toPlace s at) && tagged Forms.wholeBefore s at) && notEmpty s at)
 
 unfoldable pub goodGap : List ℕ → ℕ → Bool

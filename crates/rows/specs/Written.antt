@@ -7,6 +7,7 @@ use Rattle.wire.specs.Signs.{placed}
 use Rattle.spans.specs.Spans.{Span}
 use Rattle.spans.specs.Spans
 use Rattle.zone.specs.Answers.{Values}
+use Rattle.records.specs.Book.{lastPhase, lastCode}
 use Rattle.answer.specs.Forms
 use Rattle.answer.specs.Forms.{Form, phase, unknown, event, point, mark, day, tally}
 use Rattle.answer.specs.Fitting.{FitsPhase, FitsGap, FitsEvent}
@@ -22,8 +23,8 @@ Tagged u = u .tag ≤ 5
 
 pub record GoodPhase (least : ℕ) (p : Forms.Phase) : Type 0 where
   pub fits : FitsPhase p
-  pub phase : p .phase ≤ 7
-  pub code : p .code ≤ 3
+  pub phase : p .phase ≤ lastPhase
+  pub code : p .code ≤ lastCode
   pub from : Tagged (p .from .uncertainty)
   pub to : Tagged (p .to .uncertainty)
   pub whole : Tagged (p .whole)

@@ -8,6 +8,7 @@ use lib.ListN.{length}
 use Rattle.wire.specs.Fields.{Inside, Put}
 use Rattle.zone.specs.Zone.{Zone, zoneOf}
 use Rattle.records.specs.Records.{ruleAt}
+use Rattle.records.specs.Book.{lastPhase}
 use Rattle.spans.specs.Spans.{Mark, phase, unknown, Span, Within}
 use Rattle.spans.specs.Timeline.{Venue, turns, walk}
 use Rattle.spans.proofs.Lists.{ordered}
@@ -26,7 +27,7 @@ use Rattle.walk.proofs.Going as Going
 use Rattle.walk.proofs.Going.{left, come-left, turn-left, gone}
 use Rattle.answer.specs.Forms.{encodeAll, rowSize}
 use Rattle.pages.specs.Rows.{rowsOf}
-use Rattle.pages.specs.Pages.{stretchOf, rawForms, Slot, Ahead, Ordered, Standing, Coming, Counted, Ending, Ended, First}
+use Rattle.pages.specs.Pages.{stretchOf, rawForms, Slot, Ahead, Ordered, Standing, Coming, Counted, Ending, Ended, First, unknownSlot}
 use Rattle.tally.specs.Private.{heldMark, rawBlank, rawOf, walked, AllComing, AllCounted}
 use Rattle.pages.specs.declared.Page.{Page}
 use Rattle.pages.proofs.Paging.{unknown-slot, first-standing}
@@ -74,10 +75,10 @@ raw-ordered v start end c h = go (decLe lo hi)
 
 module _ {start end after : ℕ} {all : List (Span Mark)} {room now : List ℕ} {p : Page} {row whole : List ℕ}
     (x : Standing all (stretchOf after end unknown ∷ []) start end room now p row whole) where
-  pub last-coming : Coming now p start end after end 8 row whole
+  pub last-coming : Coming now p start end after end unknownSlot row whole
   last-coming = record { all = all; left = []; room = room; mark = unknown; is = unknown-slot; stands = x }
 
-  module _ {now1 : List ℕ} {p1 : Page} {row1 whole1 : List ℕ} (k : Counted now p start end after end 8 row whole now1 p1 row1 whole1) where
+  module _ {now1 : List ℕ} {p1 : Page} {row1 whole1 : List ℕ} (k : Counted now p start end after end unknownSlot row whole now1 p1 row1 whole1) where
     last-counted : Standing all [] start end room now1 p1 row1 whole1
     last-counted = k .on all [] room unknown unknown-slot x
 
@@ -133,7 +134,7 @@ module _ (s : List ℕ) (first : ℕ) (ats offsets rules : List ℕ) (hi : ℕ) 
     module _ {w : Walk} {now : List ℕ} {p : Page} {row whole : List ℕ} {w1 : Walk} {now1 : List ℕ} {p1 : Page} {row1 whole1 : List ℕ}
         (r : Walked start end w now p row whole w1 now1 p1 row1 whole1) where
       -- a piece comes
-      module _ {q : Piece} {a : List ℕ} (c : ComesFirst w1 q a) {j : ℕ} (e : (j ≡ pointOf s q (q .point) .phase) × (j ≤ 7)) where
+      module _ {q : Piece} {a : List ℕ} (c : ComesFirst w1 q a) {j : ℕ} (e : (j ≡ pointOf s q (q .point) .phase) × (j ≤ lastPhase)) where
         is : Slot (markOf s q) j
         is = record { is = e .0; low = omega (arith, e .0, e .1) }
 
@@ -222,7 +223,7 @@ module _ (s : List ℕ) (h : Header) (ats offsets rules events : List ℕ) where
         let e = o .before-is in
         rw e (first-standing (rawOf values start end) (o .order) (raw-ordered values start end (o .covers) (o .order)) (omega (arith, fits)) (o .first))
 
-    pub venue-coming : Coming room p start end start before 8 row whole
+    pub venue-coming : Coming room p start end start before unknownSlot row whole
     venue-coming =
         record {
           all = rawOf values start end;
@@ -234,7 +235,7 @@ module _ (s : List ℕ) (h : Header) (ats offsets rules events : List ℕ) where
         }
 
     -- then the walk comes
-    module _ {now1 : List ℕ} {p1 : Page} {row1 whole1 : List ℕ} (k : Counted room p start end start before 8 row whole now1 p1 row1 whole1) where
+    module _ {now1 : List ℕ} {p1 : Page} {row1 whole1 : List ℕ} (k : Counted room p start end start before unknownSlot row whole now1 p1 row1 whole1) where
       walk-coming : Standing (rawOf values start end) (walked s (h .first) ats offsets rules lo hi ++ (stretchOf after end unknown ∷ [])) start end room now1 p1 row1 whole1
       walk-coming =
           let l = o .lo-is in

@@ -24,7 +24,7 @@ use Rattle.wire.specs.Fields.{field}
 use Rattle.records.specs.Layout.{eventKind, number, integer, ruleLabel, ruleEvidence, ruleDerived, eventCode, eventEvidence, nanoseconds, text}
 use Rattle.records.specs.Limits.{base}
 use Rattle.records.specs.Records.{Published, Point, Rule, Event, Coverage, ruleAt, eventAt}
-use Rattle.records.specs.Book.{refusal, records}
+use Rattle.records.specs.Book.{refusal, records, lastPhase}
 use Rattle.records.specs.Valid.{Bytes, FitsRule, FitsEvent}
 use Rattle.venue.specs.Opening.{dayOf, offsetOf, coverageOf, rulesOf, eventsOf, atsOf, offsetsOf, eventPlaces}
 use Rattle.venue.specs.Reading.{published, EachPoint, GoodRule, ListedRule}
@@ -146,7 +146,7 @@ pub record Used (o : Occurrence) : Type 0 where
 pub record Good (n : ℕ) (x : Shown) : Type 0 where
   pub start : UsedBoundary (x .held .start)
   pub end : UsedBoundary (x .held .end)
-  pub phase : x .held .phase ≤ 7
+  pub phase : x .held .phase ≤ lastPhase
   pub rule : RuleFits (x .held .rule)
   pub whole : UsedUncertainty (x .whole)
   pub events : Every Used (x .events)
@@ -315,7 +315,7 @@ module _ (first : ℕ) (ats os : List ℕ) (ok : Valid first ats os)
   first-on d a h = subst (On d) (omega arith) h
 
   -- what is shown between two boundaries of a date
-  body-good : (r : Rule) → RuleFits r → (d : ℕ) (s e : Edge) (p : ℕ) → On d (s .at) → On d (e .at) → p ≤ 7
+  body-good : (r : Rule) → RuleFits r → (d : ℕ) (s e : Edge) (p : ℕ) → On d (s .at) → On d (e .at) → p ≤ lastPhase
       → Shows mostInSpan (v .body r s p e)
   body-good r f d s e p a b h =
       let x = uncertain-used first ats os ok (readingAt (s .date) (s .time)) (published (r .uncertainty)) (f .uncertainty) in
@@ -332,7 +332,7 @@ module _ (first : ℕ) (ats os : List ℕ) (ok : Valid first ats os)
         few = omega (arith, length-sorted (found zone es (s .at) (e .at)), rare (s .at) (e .at) (omega (arith, l, m)));
       }
 
-  cut-good : (r : Rule) → RuleFits r → (s : Edge) (p : ℕ) (qs : List Point) → On (s .date) (s .at) → p ≤ 7 → EachPoint qs
+  cut-good : (r : Rule) → RuleFits r → (s : Edge) (p : ℕ) (qs : List Point) → On (s .date) (s .at) → p ≤ lastPhase → EachPoint qs
       → Bodies (Shows mostInSpan) (cut v r s p qs)
   unfolding cut
   cut-good r f s p [] o h e =

@@ -13,14 +13,14 @@ use mir.Syntax.{w64}
 use mir.Val.{SFits}
 use Rattle.wire.specs.Signs.{placed}
 use Rattle.wire.proofs.Signs.{and-true, placed-meant}
-use Rattle.zone.specs.Units.{secondNs, instantNumber, lastInstant, instantOf}
+use Rattle.zone.specs.Units.{instantNumber, lastInstant, instantOf}
 use Rattle.zone.specs.Answers.{values}
 use Rattle.zone.specs.declared.Uncertainty.{Uncertainty}
 use Rattle.zone.specs.declared.Uncertainty.the-variants.{Exact, PublishedGranularity, PublishedBound, ProcessStart, AmbiguousLocalTime, NonexistentLocalTime}
 use Rattle.zone.proofs.Domain.{instantZero, instant-placed}
 use Rattle.records.specs.Limits.{base}
 use Rattle.records.specs.Records.{Coverage}
-use Rattle.records.specs.Book.{refusal, records, inside, instants}
+use Rattle.records.specs.Book.{refusal, records, inside, instants, instantsAfter}
 use Rattle.records.specs.Valid.{Bytes}
 use Rattle.venue.specs.Opening.{coverageOf, headerOf}
 use Rattle.venue.proofs.Laws.{good-coverage}
@@ -170,7 +170,7 @@ module _ (s : List ℕ) (z : refusal base s ≡ 0) where
   bodies-by b w (some c) q = segments-good s b z c q w
 
 instant-used : (z : ℤ) → inside instants z ≡ true → instantOf z ≤ lastInstant
-instant-used (pos k) e = omega (arith, leb-true k (7226582400 * secondNs) (and-true (leZ (instants .low) (pos k)) (leZ (pos k) (instants .high)) e .1))
+instant-used (pos k) e = omega (arith, leb-true k instantsAfter (and-true (leZ (instants .low) (pos k)) (leZ (pos k) (instants .high)) e .1))
 instant-used (negsuc k) e = omega arith
 
 -- For every accepted book and every accepted window. Label, evidence, derived, text and an event's code have no range of their own: they fit two

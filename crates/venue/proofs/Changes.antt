@@ -14,11 +14,11 @@ use mir.Syntax.{Width, w32, w64}
 use Rattle.wire.specs.Signs.{half, since, placed, meant}
 use Rattle.wire.proofs.Signs.{and-true, meant-placed, meant-sum, since-meant, order-lt, order-le}
 use Rattle.calendar.specs.Answers.{firstDay, lastDay, zeroDay}
-use Rattle.zone.specs.Units.{secondNs, dayNs, mostOffset, secondsInstant}
+use Rattle.zone.specs.Units.{secondNs, dayNs, mostOffset, secondsInstant, spacing}
 use Rattle.zone.specs.Answers.{Each, After, Spaced, Valid}
 use Rattle.records.specs.Limits.{base}
 use Rattle.records.specs.Records.{Coverage, Record, coverage, transition, rule, event}
-use Rattle.records.specs.Book.{Range, inside, instants, seconds, offsets, spacing, badFields, badItems, lastInstant, closer, coversNothing}
+use Rattle.records.specs.Book.{Range, inside, instants, seconds, offsets, badFields, badItems, lastInstant, closer, coversNothing, instantsBefore, instantsAfter, secondsBefore, secondsAfter}
 use Rattle.records.proofs.Tests.{or-false}
 use Rattle.records.proofs.Cascade.{Passed}
 use Rattle.venue.specs.Opening.{offsetOf, coverageOf, transitionsOf, atsOf, offsetsOf}
@@ -62,22 +62,22 @@ module _ {w : Width} {low high : ℕ} {z : ℤ} (m : Within w low high z) where
 
 -- the ranges of a book: an instant of coverage, the second of a clock change, an offset
 abbrev Instant : ℤ → Type 0
-Instant z = Within w64 (2177452800 * secondNs - 1) (7226582400 * secondNs) z
+Instant z = Within w64 (instantsBefore - 1) instantsAfter z
 
 instant-within : (z : ℤ) → not (inside instants z) ≡ false → Instant z
-instant-within z e = within w64 (2177452800 * secondNs - 1) (7226582400 * secondNs) z (omega arith) (omega arith) e
+instant-within z e = within w64 (instantsBefore - 1) instantsAfter z (omega arith) (omega arith) e
 
 abbrev Second : ℤ → Type 0
-Second z = Within w64 2208988799 7258118400 z
+Second z = Within w64 (secondsBefore - 1) secondsAfter z
 
 second-within : (z : ℤ) → not (inside seconds z) ≡ false → Second z
-second-within z e = within w64 2208988799 7258118400 z (omega arith) (omega arith) e
+second-within z e = within w64 (secondsBefore - 1) secondsAfter z (omega arith) (omega arith) e
 
 abbrev Offset : ℤ → Type 0
-Offset z = Within w32 57599 57600 z
+Offset z = Within w32 (mostOffset - 1) mostOffset z
 
 offset-within : (z : ℤ) → not (inside offsets z) ≡ false → Offset z
-offset-within z e = within w32 57599 57600 z (omega arith) (omega arith) e
+offset-within z e = within w32 (mostOffset - 1) mostOffset z (omega arith) (omega arith) e
 
 offset-in : {z : ℤ} → Offset z → offsetOf z ≤ 2 * mostOffset
 offset-in m = let c = counted m mostOffset (omega arith) (omega arith) in let b = m .below in omega arith

@@ -12,11 +12,11 @@ use Rattle.wire.specs.Fields.{wrote}
 use Rattle.wire.specs.Signs.{half, meant, turned}
 use Rattle.wire.proofs.Signs.{since-meant}
 use Rattle.wire.proofs.Writing.{wrote-nothing}
-use Rattle.zone.specs.Units.{secondNs, instantOf}
-use Rattle.records.specs.Layout.{number, coverageStart, coverageEnd, coverageOffset, coverageKind}
+use Rattle.zone.specs.Units.{instantOf, mostOffset}
+use Rattle.records.specs.Layout.{number, coverageStart, coverageEnd, coverageOffset, coverageKind, coverageSize}
 use Rattle.records.specs.Limits.{base}
 use Rattle.records.specs.Records.{Record, coverage, coverageAt, recordAt, kindOf}
-use Rattle.records.specs.Book.{inside, instants, offsets, kindAt, nextAt, badFields, refusal, recordsFrom, records}
+use Rattle.records.specs.Book.{inside, instants, offsets, kindAt, nextAt, badFields, refusal, recordsFrom, records, instantsBefore, instantsAfter}
 use Rattle.records.specs.Frame.{Framed}
 use Rattle.records.proofs.Tests.{or-false, inside-range}
 use Rattle.records.proofs.Frames.{is-one, room1}
@@ -73,10 +73,10 @@ module _ (s : List ℕ) (e : refusal base s ≡ 0) where
 
 -- the first record
 pub record Head (s : List ℕ) : Type 0 where
-  pub room : 24 ≤ length s
-  pub start-low : half w64 - 2177452800 * secondNs ≤ turned w64 (number coverageStart s 0)
-  pub end-low : half w64 - 2177452800 * secondNs ≤ turned w64 (number coverageEnd s 0)
-  pub offset-low : half w32 - 57600 ≤ turned w32 (number coverageOffset s 0)
+  pub room : coverageSize ≤ length s
+  pub start-low : half w64 - instantsBefore ≤ turned w64 (number coverageStart s 0)
+  pub end-low : half w64 - instantsBefore ≤ turned w64 (number coverageEnd s 0)
+  pub offset-low : half w32 - mostOffset ≤ turned w32 (number coverageOffset s 0)
   pub is : coverageOf (records s) ≡ some (coverageAt s 0)
 
 module _ (s : List ℕ) (e : refusal base s ≡ 0) (ne : length s ≡ 0 → ⊥) where
@@ -86,7 +86,7 @@ module _ (s : List ℕ) (e : refusal base s ≡ 0) (ne : length s ≡ 0 → ⊥)
   first-by (suc g) a =
       let h : 0 < length s = omega arith in
       let n = ahead-next a h in
-      let k : kindAt s 0 ≡ coverageKind = sym (kind-here s 0 (n .frame)) ∙ eqb-true (kindOf (recordAt s 0)) 1 (not-false _ (n .passes .headed)) in (
+      let k : kindAt s 0 ≡ coverageKind = sym (kind-here s 0 (n .frame)) ∙ eqb-true (kindOf (recordAt s 0)) coverageKind (not-false _ (n .passes .headed)) in (
         n .frame,
         k,
         or-false (badFields base (recordAt s 0)) _ (n .passes .fields) .0,
@@ -101,11 +101,11 @@ module _ (s : List ℕ) (e : refusal base s ≡ 0) (ne : length s ≡ 0 → ⊥)
       let z : badFields base (coverage v) ≡ false = ap (badFields base) (sym (is-one s 0 (kindAt s 0) (f .0) refl (f .1))) ∙ f .2 in
       let q = or-false (not (inside instants (v .start)) || not (inside instants (v .end))) (not (inside offsets (v .offset))) z in
       let o = or-false (not (inside instants (v .start))) (not (inside instants (v .end))) (q .0) in
-      let low = half w64 - 2177452800 * secondNs in
-      let high = half w64 + 7226582400 * secondNs in
+      let low = half w64 - instantsBefore in
+      let high = half w64 + instantsAfter in
       let a = inside-range w64 low high (turned w64 (number coverageStart s 0)) (o .0) in
       let b = inside-range w64 low high (turned w64 (number coverageEnd s 0)) (o .1) in
-      let c = inside-range w32 (half w32 - 57600) (half w32 + 57600) (turned w32 (number coverageOffset s 0)) (q .1) in
+      let c = inside-range w32 (half w32 - mostOffset) (half w32 + mostOffset) (turned w32 (number coverageOffset s 0)) (q .1) in
       record {
         room = let r = room1 s 0 (kindAt s 0) (f .0) refl (f .1) in omega arith;
         start-low = a .0;
@@ -123,7 +123,7 @@ module _ (s : List ℕ) (e : refusal base s ≡ 0) (ne : length s ≡ 0 → ⊥)
       (record {
         start = record { 0 = a };
         end = record { 0 = b };
-        first = o - (half w32 - 57600);
+        first = o - (half w32 - mostOffset);
         transitions = n .transitions;
         rules = n .rules;
         events = n .events;
@@ -133,5 +133,5 @@ module _ (s : List ℕ) (e : refusal base s ≡ 0) (ne : length s ≡ 0 → ⊥)
   venue-answer qp qa qq qb qo qn =
       let i = qa ∙ ap (λ (x : ℕ). instantOf (meant w64 x)) qp in
       let j = qb ∙ ap (λ (x : ℕ). instantOf (meant w64 x)) qq in
-      let k = sym (since-meant w32 57600 (turned w32 (number coverageOffset s 0)) (omega arith)) in
+      let k = sym (since-meant w32 mostOffset (turned w32 (number coverageOffset s 0)) (omega arith)) in
       rw (i, j, qo, qn, k, head .is, e)

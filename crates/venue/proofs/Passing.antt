@@ -13,13 +13,13 @@ use mir.Syntax.{w32, w64}
 use Rattle.wire.specs.Fields.{wrote}
 use Rattle.wire.specs.Signs.{half, meant, turned}
 use Rattle.wire.proofs.Signs.{since-meant}
-use Rattle.zone.specs.Units.{secondsInstant, SecondsFit}
+use Rattle.zone.specs.Units.{secondsInstant, SecondsFit, mostOffset}
 use Rattle.records.specs.Layout.{number, transitionInstant, transitionOffset, transitionKind, ruleKind, eventKind}
 use Rattle.wire.proofs.Writing.{wrote-one, wrote-nothing}
 use Rattle.records.specs.Limits.{base}
 use Rattle.records.specs.Records.{Record, coverage, transition, rule, event, transitionAt, recordAt, kindOf}
 use Rattle.records.proofs.Tests.{or-false, inside-range}
-use Rattle.records.specs.Book.{inside, seconds, offsets, badFields, kindAt, nextAt, badFrame, many, most, numberAt, numberFrom, refusal, recordsFrom, records}
+use Rattle.records.specs.Book.{inside, seconds, offsets, badFields, kindAt, nextAt, badFrame, many, most, numberAt, numberFrom, refusal, recordsFrom, records, secondsBefore, secondsAfter}
 use Rattle.records.specs.Frame.{Framed}
 use Rattle.records.proofs.Frames.{Kind, one, two, three, four, kind-of, framed, is-one, is-two, is-three, is-four}
 use Rattle.records.proofs.Cascade.{passed, Passed, passed-all}
@@ -251,9 +251,9 @@ module _ (s : List ℕ) (at turns : ℕ) (h : at < length s) (f : Framed s at) w
 
 -- a clock change's fields are in their ranges
 pub record Ranged (s : List ℕ) (at : ℕ) : Type 0 where
-  pub at-low : half w64 - 2208988800 ≤ turned w64 (number transitionInstant s at)
-  pub at-high : turned w64 (number transitionInstant s at) ≤ half w64 + 7258118400
-  pub offset-low : half w32 - 57600 ≤ turned w32 (number transitionOffset s at)
+  pub at-low : half w64 - secondsBefore ≤ turned w64 (number transitionInstant s at)
+  pub at-high : turned w64 (number transitionInstant s at) ≤ half w64 + secondsAfter
+  pub offset-low : half w32 - mostOffset ≤ turned w32 (number transitionOffset s at)
 
 pub ranged : (s : List ℕ) (at : ℕ) (before : List Record) → Framed s at → kindAt s at ≡ transitionKind → Passed base before (recordAt s at) → Ranged s at
 unfolding badFields meant
@@ -261,8 +261,8 @@ ranged s at before f e p =
     let z : badFields base (transition (transitionAt s at)) ≡ false =
     ap (badFields base) (sym (is-two s at (kindAt s at) f refl e)) ∙ or-false (badFields base (recordAt s at)) _ (p .fields) .0 in
     let o = or-false (not (inside seconds (transitionAt s at .at))) (not (inside offsets (transitionAt s at .offset))) z in
-    let a = inside-range w64 (half w64 - 2208988800) (half w64 + 7258118400) (turned w64 (number transitionInstant s at)) (o .0) in
-    let b = inside-range w32 (half w32 - 57600) (half w32 + 57600) (turned w32 (number transitionOffset s at)) (o .1) in
+    let a = inside-range w64 (half w64 - secondsBefore) (half w64 + secondsAfter) (turned w64 (number transitionInstant s at)) (o .0) in
+    let b = inside-range w32 (half w32 - mostOffset) (half w32 + mostOffset) (turned w32 (number transitionOffset s at)) (o .1) in
     record { at-low = a .0; at-high = a .1; offset-low = b .0 }
 
 -- and so are kept as they are meant
@@ -274,10 +274,10 @@ module _ {s : List ℕ} {at : ℕ} (r : Ranged s at) where
       → a ≡ secondsInstant (transitionAt s at .at)
   instant-kept e i = i ∙ ap (λ (x : ℕ). secondsInstant (meant w64 x)) e
 
-  pub offset-kept : (q : ℕ) → q ≡ turned w32 (number transitionOffset s at) → q - (half w32 - 57600) ≡ offsetOf (transitionAt s at .offset)
+  pub offset-kept : (q : ℕ) → q ≡ turned w32 (number transitionOffset s at) → q - (half w32 - mostOffset) ≡ offsetOf (transitionAt s at .offset)
   offset-kept q e =
-      ap (λ (i : ℕ). i - (half w32 - 57600)) e
-      ∙ sym (since-meant w32 57600 (turned w32 (number transitionOffset s at)) (omega arith))
+      ap (λ (i : ℕ). i - (half w32 - mostOffset)) e
+      ∙ sym (since-meant w32 mostOffset (turned w32 (number transitionOffset s at)) (omega arith))
 
 -- n clock changes stand before `at`, and those from there on are still to be stored
 pub record Changing (s ats ats′ offsets offsets′ : List ℕ) (turns at n : ℕ) : Type 0 where

@@ -13,7 +13,7 @@ use Rattle.zone.specs.declared.Uncertainty.the-variants.{Exact, PublishedGranul
 use Rattle.records.specs.Limits.{base}
 use Rattle.records.specs.Records.{Coverage, Published, Point, Rule, Event, recordAt}
 use Rattle.records.specs.Frame.{Framed}
-use Rattle.records.specs.Book.{kindAt, outside, lateStart, falling, reversed}
+use Rattle.records.specs.Book.{kindAt, outside, lateStart, falling, reversed, lastMask, lastPhase, lastCode}
 use Rattle.records.specs.Layout.{ruleKind, eventKind}
 use Rattle.venue.specs.Opening.{dayOf}
 
@@ -73,7 +73,7 @@ FromMidnight (p ∷ ps) = (p .time ≡ 0) × Rising (p .time) ps
 
 abbrev pub EachPoint : List Point → Type 0
 EachPoint [] = Unit {0}
-EachPoint (p ∷ ps) = (p .time < dayNs) × (p .phase ≤ 7) × EachPoint ps
+EachPoint (p ∷ ps) = (p .time < dayNs) × (p .phase ≤ lastPhase) × EachPoint ps
 
 abbrev pub EachTime : List ℕ → Type 0
 EachTime [] = Unit {0}
@@ -83,8 +83,8 @@ pub record GoodRule (r : Rule) : Type 0 where
   pub first-low : firstDay ≤ dayOf (r .first)
   pub order : dayOf (r .first) ≤ dayOf (r .last)
   pub last-high : dayOf (r .last) ≤ lastDay
-  pub code : r .code ≤ 3
-  pub mask : r .mask ≤ 127
+  pub code : r .code ≤ lastCode
+  pub mask : r .mask ≤ lastMask
   pub from-midnight : FromMidnight (r .points)
   pub each : EachPoint (r .points)
   pub few : length (r .points) ≤ base .points

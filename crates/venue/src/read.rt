@@ -5,6 +5,7 @@ ghost use mathlib.Core.Logic.{_⊎_};
 ghost use lib.ListN.{length, getD};
 ghost use Rattle.calendar.specs.Answers.{firstDay, lastDay};
 ghost use Rattle.zone.specs.Units.{dayNs};
+ghost use Rattle.records.specs.Book.{lastMask, lastPhase, lastCode};
 ghost use Rattle.records.specs.Limits.{base};
 ghost use Rattle.records.specs.Records.{ruleAt, eventAt, publishedAt};
 ghost use Rattle.records.specs.Layout.{ruleKind, eventKind};
@@ -36,14 +37,14 @@ pub fn rule_last(book: &[u8], at: usize) -> Day
 
 pub fn rule_code(book: &[u8], at: usize) -> u8
     requires { ⌜ ListedRule (now book) at ⌝ }
-    ensures { λ r. ⌜ (r ≡ ruleAt (now (book .entry)) at .code) × (r ≤ 3) ⌝ }
+    ensures { λ r. ⌜ (r ≡ ruleAt (now (book .entry)) at .code) × (r ≤ lastCode) ⌝ }
 {
     get1(book, at + RULE_CODE)
 }
 
 pub fn rule_mask(book: &[u8], at: usize) -> u8
     requires { ⌜ ListedRule (now book) at ⌝ }
-    ensures { λ r. ⌜ (r ≡ ruleAt (now (book .entry)) at .mask) × (r ≤ 127) ⌝ }
+    ensures { λ r. ⌜ (r ≡ ruleAt (now (book .entry)) at .mask) × (r ≤ lastMask) ⌝ }
 {
     get1(book, at + RULE_MASK)
 }
@@ -94,7 +95,7 @@ pub fn point_time(book: &[u8], at: usize, i: usize) -> u64
 // Its phase.
 pub fn point_phase(book: &[u8], at: usize, i: usize) -> u8
     requires { ⌜ ListedRule (now book) at × (i < length (ruleAt (now book) at .points)) ⌝ }
-    ensures { λ r. ⌜ (r ≡ getD (ruleAt (now (book .entry)) at .points) i midnight .phase) × (r ≤ 7) ⌝ }
+    ensures { λ r. ⌜ (r ≡ getD (ruleAt (now (book .entry)) at .points) i midnight .phase) × (r ≤ lastPhase) ⌝ }
 {
     get1(book, at + step_of(RULE) * i + time_place(RULE) + PHASE)
 }

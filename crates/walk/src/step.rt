@@ -3,7 +3,7 @@
 ghost use mathlib.Core.Path.{_≡_};
 ghost use mathlib.Core.List.{map};
 ghost use mathlib.Core.Option.{none};
-ghost use Prim.Native.Nat.{_≤_, _<_};
+ghost use Prim.Native.Nat.{_-_, _^_, _≤_, _<_};
 ghost use lib.ListN.{length};
 ghost use Rattle.zone.specs.Zone.{zoneOf};
 ghost use Rattle.zone.specs.Answers.{Valid};
@@ -153,7 +153,7 @@ pub fn turn_on(
 
 // Where the walk stands behind a piece.
 pub fn behind(q: Piece) -> Walk
-    requires { ⌜ q .point < 18446744073709551615 ⌝ }
+    requires { ⌜ q .point < 2 ^ 64 - 1 ⌝ }
     ensures { λ r. ⌜ r ≡ Walking·behind q ⌝ }
 {
     let began = q.began;

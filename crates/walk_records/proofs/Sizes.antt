@@ -2,7 +2,7 @@
 use mathlib.Core.Path.{_≡_, refl, ap, _∙_}
 use mathlib.Core.Bool.{Bool, true, false, cond}
 use mathlib.Core.List.{List, [], _∷_, _++_, map}
-use Prim.Native.Nat.{ℕ, suc, _+_, _*_, _≤_}
+use Prim.Native.Nat.{ℕ, suc, _+_, _*_, _^_, _≤_, _<_}
 use native.Mathlib.Omega.{arith}
 use lib.ListN.{length, length-append}
 use Rattle.records.proofs.Laid.{laid-length}
@@ -116,6 +116,6 @@ size-one {total} {size} {size′} {last} {last′} {q} {qs} w h e i =
     go true f g = omega arith
     go false f g = omega arith
 
-pub size-end : {total size : ℕ} {last : Last} {left : List (Span Shown)} → Sizing total last size left → left ≡ [] → (size ≡ total) × (size ≤ 4294967295)
+pub size-end : {total size : ℕ} {last : Last} {left : List (Span Shown)} → Sizing total last size left → left ≡ [] → (size ≡ total) × (size < 2 ^ 32)
 unfolding more
 size-end {last = last} w e = (let s = w .same in let n = ap (more last) e in omega arith, let f = w .few in omega arith)

@@ -1,5 +1,5 @@
 // The first pass over a walk: how many bytes its records take, joined.
-ghost use Prim.Native.Nat.{_≤_};
+ghost use Prim.Native.Nat.{_^_, _≤_, _<_};
 ghost use mathlib.Core.Path.{_≡_};
 ghost use mathlib.Core.Bool.{cond};
 ghost use lib.ListN.{length};
@@ -45,7 +45,7 @@ pub fn walk_size(
     requires { ⌜ Ready (now book) first (now ats) (now offsets) (now rules) (now events) ⌝ }
     ensures { λ r. ⌜ (r ≡ length (encodeAll
         (walkForms (now (book .entry)) first (now (ats .entry)) (now (offsets .entry)) (now (rules .entry)) (now (events .entry)) (lo .0) (hi .0))))
-        × (r ≤ 4294967295) ⌝ }
+        × (r < 2 ^ 32) ⌝ }
 {
     let mut kept = [0u32; MOST_KEPT];
     let mut edges = [0u64; MOST_BOUNDARIES];

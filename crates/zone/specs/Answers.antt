@@ -11,7 +11,7 @@ use mir.Syntax.{w64}
 use mir.Val.{ofZ}
 use Rattle.wire.specs.Fields.{bytes}
 use Rattle.calendar.specs.Answers.{firstDay, lastDay}
-use Rattle.zone.specs.Units.{secondNs, dayNs, mostOffset, instantNumber, nearestReading, readingAt}
+use Rattle.zone.specs.Units.{secondNs, dayNs, mostOffset, instantNumber, nearestReading, readingAt, spacing}
 use Rattle.zone.specs.Zone.{Zone, resolve}
 use Rattle.zone.specs.declared.Boundary.{Boundary}
 use Rattle.zone.specs.declared.Resolution.{Resolution}
@@ -27,9 +27,9 @@ Each lo hi [] = Unit {0}
 Each lo hi (x ∷ xs) = (lo ≤ x) × (x ≤ hi) × Each lo hi xs
 
 abbrev pub spacingNs : ℕ
-spacingNs = 172800 * secondNs
+spacingNs = spacing * secondNs
 
--- each at least 172,800 s after the one before
+-- each at least the spacing after the one before
 abbrev pub After : ℕ → List ℕ → Type 0
 After a [] = Unit {0}
 After a (b ∷ bs) = a + spacingNs ≤ b

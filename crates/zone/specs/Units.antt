@@ -30,6 +30,10 @@ SecondsFit p = (half w64 ≤ p + zeroDay * 86400) × (secondsInstant (meant w64 
 abbrev pub mostOffset : ℕ
 mostOffset = 57600
 
+-- transitions stand at least so many seconds apart
+abbrev pub spacing : ℕ
+spacing = 172800
+
 abbrev pub mostNs : ℕ
 mostNs = mostOffset * secondNs
 

@@ -34,11 +34,16 @@ pub const SECOND_NS: u64 = 1_000_000_000;
 
 pub const DAY_NS: u64 = 86_400 * SECOND_NS;
 
-// The most that an offset moves a reading.
-pub(crate) const MOST_NS: u64 = 57_600 * SECOND_NS;
+// The most that an offset is, in seconds, ahead of UTC or behind it; and the most that it moves a reading.
+pub const MOST_OFFSET: u32 = 57_600;
 
-// An offset is kept in seconds plus 57,600.
-pub(crate) const OFFSET_MOST: u32 = 115_200;
+pub(crate) const MOST_NS: u64 = MOST_OFFSET as u64 * SECOND_NS;
+
+// An offset is kept in seconds plus the most that it is.
+pub(crate) const OFFSET_MOST: u32 = 2 * MOST_OFFSET;
+
+// A transition stands at least so many seconds after the one before.
+pub const SPACING: u64 = 172_800;
 
 // Transitions stand from the first of these to the second.
 pub(crate) const FIRST_TRANSITION: u64 = FIRST_DAY as u64 * DAY_NS;

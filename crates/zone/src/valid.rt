@@ -5,8 +5,9 @@ use crate::FIRST_TRANSITION;
 use crate::LAST_TRANSITION;
 use crate::OFFSET_MOST;
 use crate::SECOND_NS;
+use crate::SPACING;
 
-const SPACING_NS: u64 = 172_800 * SECOND_NS;
+const SPACING_NS: u64 = SPACING * SECOND_NS;
 
 pub fn is_valid(first: u32, ats: &[u64], offsets: &[u32]) -> bool
     ensures { λ r. ⌜ r ≡ valid first (now (ats .entry)) (now (offsets .entry)) ⌝ }

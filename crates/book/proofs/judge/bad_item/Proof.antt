@@ -1,5 +1,5 @@
 use Rattle.book.proofs.Judging.{item-time-only, item-point}
-use Rattle.records.specs.Layout.{isRule}
+use Rattle.records.specs.Layout.{isRule, ruleKind, step}
 use Rattle.records.proofs.Frames.{step-least, step-rule}
 use Prim.Native.Nat.{_+_, _≤_}
 use lib.ListN.{length}
@@ -26,7 +26,7 @@ is-rule : (c : tie.Else1) → isRule (c .before .before .before .before .args .k
 is-rule c = sym (c .before .is-rule .ensures) ∙ not-false _ (c .if1 .left)
 
 room : (c : tie.After-time-place)
-    → let args = c .before .before .before .before .before .args in args .at + c .time-place .result + 9 ≤ length (args .book .now)
+    → let args = c .before .before .before .before .before .args in args .at + c .time-place .result + step ruleKind ≤ length (args .book .now)
 room c =
     let at-start = c .before .before .before .before .before in
     omega (arith, at-start .pre, c .time-place .ensures .0, step-rule (at-start .args .kind) (is-rule (c .before)))

@@ -13,6 +13,7 @@ use mathlib.Core.Bool.{false}
 use mathlib.Core.List.{List}
 use mathlib.Core.Path.{_≡_, refl, sym, ap, ap₂, _∙_}
 use native.Mathlib.Omega.{arith}
+use Rattle.records.specs.Limits.{base}
 use Rattle.day.proofs.cut.span_after.Statement.{statement}
 use Rattle.day.proofs.cut.span_after.Tie as tie
 
@@ -64,7 +65,7 @@ instant-read a i x h = ap (λ (b : Boundary). b .at .0) (read a i x h)
 abbrev counted : At tie.In-loop → At tie.After-rule-points
 counted c = c .before .before .before .before
 
-within : (c : At tie.In-loop) → (1 ≤ c .before .loop .i) × (c .before .loop .i < points (counted c)) × (points (counted c) ≤ 16)
+within : (c : At tie.In-loop) → (1 ≤ c .before .loop .i) × (c .before .loop .i < points (counted c)) × (points (counted c) ≤ base .points)
 within c = (c .before .loop .inv .1 .some-in, c .loop-test .taken, counted c .rule-points .ensures .2)
 
 -- ---- behind it: all boundaries, the next midnight the last
@@ -96,7 +97,7 @@ ready c = c .before .before
 
 within2 : (c : At tie.In-loop2)
     → let p = counted2 (ready c) in
-    (c .before .loop2 .k < points p) × (points p ≡ length (ruleIn p .points)) × (points p ≤ 16) × (length (stored (ready c)) ≡ 17)
+    (c .before .loop2 .k < points p) × (points p ≡ length (ruleIn p .points)) × (points p ≤ base .points) × (length (stored (ready c)) ≡ suc (base .points))
 within2 c =
     let p = counted2 (ready c) in
     (c .loop2-test .taken, p .rule-points .ensures .0, p .rule-points .ensures .2, all (ready c) .filled .long)

@@ -1,5 +1,5 @@
 use native.Mathlib.Omega.{arith}
-use Prim.Native.Nat.{_-_, _<_}
+use Prim.Native.Nat.{_-_, _<_, _^_}
 use Rattle.pages.specs.Rows.{rowEnd}
 use Rattle.pages.proofs.Paging.{Rolling, rolling-none, rolling-next, coming-whole, coming-row, coming-room, coming-turn, counted}
 use Rattle.pages.proofs.count.stretch.Statement.{statement}
@@ -33,7 +33,7 @@ turns c =
     coming-turn (entry at-rows .pre) (at-rows .rows .inv) (at-part2 .part2 .ensures) (at-shift2 .shift2 .ensures) (omega (arith, c .if1 .left))
 
 -- an instant is a number of 64 bits
-small : (c : At tie.Start) → c .args .end .0 < 18446744073709551616
+small : (c : At tie.Start) → c .args .end .0 < 2 ^ 64
 small c = let h = c .good .1 .1 .1 .0 in omega (arith, h)
 
 shift-requires : At tie.Need-shift-requires

@@ -4,6 +4,7 @@ use Prim.Native.Nat.{_+_, _≤_}
 use native.Mathlib.Omega.{arith}
 use borrow.Author.Tests.{not-true, not-false}
 use lib.ListN.{length}
+use Rattle.records.specs.Layout.{size}
 use Rattle.answer.specs.Forms.{phaseKind, phaseLength}
 use Rattle.rows.specs.Rows.{framed}
 use Rattle.rows.proofs.Turns.{framed-holds}
@@ -20,7 +21,7 @@ returns c =
 stands : (c : tie.Else1) → let args = c .before .before .before .args in framed phaseKind phaseLength (args .bytes .now) (args .at) ≡ true
 stands c = sym (c .before .framed .ensures) ∙ not-false _ (c .if1 .left)
 
-whole : (c : tie.Else1) → let args = c .before .before .before .args in args .at + 2 + 103 ≤ length (args .bytes .now)
+whole : (c : tie.Else1) → let args = c .before .before .before .args in args .at + size .width + phaseLength ≤ length (args .bytes .now)
 whole c = let args = c .before .before .before .args in framed-holds (args .bytes .now) (args .at) phaseKind phaseLength (stands c) .0
 
 returns-2 : tie.Need-returns-2

@@ -1,5 +1,5 @@
 use Rattle.records.specs.Layout.{number, kind}
-use Rattle.answer.specs.Forms.{phaseSize, gapSize}
+use Rattle.answer.specs.Forms.{phaseSize, gapSize, phaseKind}
 use Rattle.rows.proofs.Places.{segment-room, phase-room}
 use Rattle.rows.proofs.Judging.{phase-made, gap-made}
 use Prim.Native.Nat.{_+_, _^_, _≤_, _<_}
@@ -18,7 +18,7 @@ whole : (c : tie.After-shared-slice-known) → (c .before .args .at) + gapSize �
 whole c = segment-room _ _ (c .before .pre)
 
 -- a phase stands here
-is-phase : (c : tie.Then1) → let args = c .before .before .before .before .before .args in number kind (args .bytes .now) (args .at) ≡ 16
+is-phase : (c : tie.Then1) → let args = c .before .before .before .before .before .args in number kind (args .bytes .now) (args .at) ≡ phaseKind
 is-phase c = sym (c .before .get2 .ensures) ∙ (c .if1 .taken)
 
 -- and lies in the bytes

@@ -1,4 +1,5 @@
 use Rattle.venue.proofs.Listing.{event-time-room, event-time-read}
+use Rattle.records.specs.Layout.{eventKind, time, step}
 use Rattle.records.specs.Limits.{base}
 use lib.ListN.{length}
 use Prim.Native.Nat.{_+_, _*_, _≤_}
@@ -10,7 +11,7 @@ use Rattle.venue.proofs.read.event_time.Tie as tie
 -- the time stands inside the book, which is small
 inside : (c : tie.After-step-of)
     → let args = c .before .before .args in
-    (args .at + (c .step-of .result) * (args .i) + 36 ≤ length (args .book .now)) × (length (args .book .now) ≤ base .bytes)
+    (args .at + (c .step-of .result) * (args .i) + (time eventKind .from + step eventKind) ≤ length (args .book .now)) × (length (args .book .now) ≤ base .bytes)
 inside c =
     let p = c .before .before .pre in
     (rw (c .step-of .ensures .0) (omega (arith, event-time-room (p .0) (p .1))), p .0 .small)

@@ -3,6 +3,7 @@ use Prim.Native.Nat.{_+_, _≤_}
 use lib.ListN.{length}
 use mir.Syntax.{w64}
 use Rattle.wire.specs.Signs.{half}
+use Rattle.records.specs.Layout.{count}
 use Rattle.records.specs.Records.{publishedAt}
 use Rattle.venue.specs.Reading.{published}
 use Rattle.venue.proofs.Listing.{Uncertain, uncertain-at, width-read, told, told-read, exact, granular, bounded, started}
@@ -18,8 +19,8 @@ uncertain : (c : tie.After-tag-place) → let args = start c .args in Uncertain 
 uncertain c = uncertain-at (start c .pre .0) (start c .pre .1)
 
 -- its fields stand inside the book
-room : (c : tie.After-tag-place) → let args = start c .args in args .at + c .tag-place .result + 11 ≤ length (args .book .now)
-room c = omega (arith, c .tag-place .ensures .0, uncertain c .room)
+room : (c : tie.After-tag-place) → let args = start c .args in args .at + count (args .kind) .from ≤ length (args .book .now)
+room c = uncertain c .room
 
 -- the width is not negative
 wide : (c : tie.After-signed8) → half w64 ≤ c .signed8 .result .0
@@ -38,13 +39,13 @@ told-at c =
     told-read (uncertain at-tag-place) (at-tag-place .tag-place .ensures .0) (at-get1 .get1 .ensures) (at-signed8 .signed8 .ensures) (c .get2 .ensures)
 
 get1-requires : tie.Need-get1-requires
-get1-requires c κs = omega (arith, room c)
+get1-requires c κs = omega (arith, c .tag-place .ensures .0, room c)
 
 signed8-requires : tie.Need-signed8-requires
-signed8-requires c κs = omega (arith, room (c .before))
+signed8-requires c κs = let p = c .before in omega (arith, p .tag-place .ensures .0, room p)
 
 get2-requires : tie.Need-get2-requires
-get2-requires c κs = omega (arith, room (c .before .before .before))
+get2-requires c κs = let p = c .before .before .before in omega (arith, p .tag-place .ensures .0, room p)
 
 returns : tie.Need-returns
 returns c = exact _ _ _ (c .match .keys1) ∙ ap published (told-at (c .before))
