@@ -9,7 +9,7 @@ use Rattle.wire.proofs.Signs.{and-no}
 use Rattle.records.specs.Records.{Rule}
 use Rattle.spans.specs.Spans.{Mark, phase, unknown, Body, look, segmentAt}
 use Rattle.spans.specs.Timeline.{Venue, Part, midnight, spans, pointAt, turns, unjoined, timeline}
-use Rattle.spans.proofs.Walking.{Fits, walk-look, date-of}
+use Rattle.spans.proofs.Walking.{DateFits, walk-look, date-of}
 use Rattle.spans.proofs.Dates.{governed, ungoverned}
 use Rattle.spans.proofs.Shape.{early, covered, late, unchanged}
 use Rattle.spans.proofs.Points.{point-out, point-in}
@@ -53,20 +53,20 @@ module _ {A : Type 0} (B : Body A) (v : Venue A) (gap : A) (c w : Part) (ok : Ac
   -- in a date of the run
   module _ (pw : PlainWindow v w) (t : ℕ) (from : w .start ≤ t) (to : t < w .end)
       (d : ℕ) (low : pw .first ≤ d) (high : d < pw .first + pw .count) (begun : midnight v d ≤ t) (going : t < midnight v (suc d)) where
-    fit : (e : ℕ) → PlainDate v e → Fits v e
+    fit : (e : ℕ) → PlainDate v e → DateFits v e
     fit e p = fits v e (ok .starts e) p
 
-    run : (e : ℕ) → pw .first ≤ e → e < pw .first + pw .count → Fits v e
+    run : (e : ℕ) → pw .first ≤ e → e < pw .first + pw .count → DateFits v e
     run e a b = fit e (pw .run e a b)
 
     -- the dates of the run with the one before and the one after
-    around : (e : ℕ) → pw .first ≤ suc e → e ≤ pw .first + pw .count → Fits v e
+    around : (e : ℕ) → pw .first ≤ suc e → e ≤ pw .first + pw .count → DateFits v e
     around e a b = go (decLt e (pw .first)) (decLt e (pw .first + pw .count))
       where
-        go : Dec (e < pw .first) → Dec (e < pw .first + pw .count) → Fits v e
-        go (yes h) q = let z : pw .first - 1 ≡ e = omega arith in subst (Fits v) z (fit (pw .first - 1) (pw .before))
+        go : Dec (e < pw .first) → Dec (e < pw .first + pw .count) → DateFits v e
+        go (yes h) q = let z : pw .first - 1 ≡ e = omega arith in subst (DateFits v) z (fit (pw .first - 1) (pw .before))
         go (no h) (yes i) = run e (omega arith) i
-        go (no h) (no i) = let z : pw .first + pw .count ≡ e = omega arith in subst (Fits v) z (fit (pw .first + pw .count) (pw .after))
+        go (no h) (no i) = let z : pw .first + pw .count ≡ e = omega arith in subst (DateFits v) z (fit (pw .first + pw .count) (pw .after))
 
     reading : v .reads t ≡ d
     reading = run d low high .reading t begun going

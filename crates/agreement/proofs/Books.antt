@@ -24,8 +24,8 @@ use Rattle.day.specs.Days.{Values, Held, valuesOf, venueOf, pointOf}
 use Rattle.day.proofs.Listed.{governing-listed, source-good}
 use Rattle.query.specs.Judging.{windowRefusal}
 use Rattle.query.proofs.Instants.{number-back}
-use Rattle.query.proofs.Order.{lt-le, inside-between, Kept, instant-le, instant-lt, number-le, number-lt, window-passed, window-inside}
-use Rattle.tell.specs.Shown.{Shown, shown}
+use Rattle.query.proofs.Order.{lt-le, inside-between, GivenBack, instant-le, instant-lt, number-le, number-lt, window-passed, window-inside}
+use Rattle.span_records.specs.Shown.{Shown, shown}
 use Rattle.timeline.specs.Segments.{markOf, segments, showing, timelineOf}
 use Rattle.timeline.proofs.Parts.{merges}
 use Rattle.point.specs.Said.{pointMark}
@@ -103,7 +103,7 @@ module _ (s : List ℕ) (c : Coverage) (named : Names s c) where
           let w = window-passed start end passes in
           inside-between instants start end at (w .start-in) (w .end-in) (in-window .0) (lt-le at end (in-window .1))
 
-      kept : Kept at
+      kept : GivenBack at
       kept = number-back at in-range
 
       covered-is : Between (c .start) (c .end) at ↔ Covered (values .coverage) (instantOf at)

@@ -8,7 +8,7 @@ use Rattle.records.specs.Records.{Point, Rule}
 use Rattle.spans.specs.Spans.{clip, reach, Within, Tile}
 use Rattle.spans.specs.Timeline.{Edge, Venue, midnight, raised, cut, ofPoints, ofRule, spans, Starts}
 use Rattle.spans.proofs.Dates.{keep-tile, tile-within, tile-reach}
-use Rattle.spans.proofs.Walking.{Fits}
+use Rattle.spans.proofs.Walking.{DateFits}
 use Rattle.plain.specs.Plain.{Rises, InOrder, PlainDate}
 
 module _ {A : Type 0} (v : Venue A) (r : Rule) where
@@ -35,7 +35,7 @@ module _ {A : Type 0} (v : Venue A) (d : ℕ) where
       (cut-tile v r (raised v 0 d (p .time)) (p .phase) ps (subst (λ (x : ℕ). Rises (v .conv d) x (midnight v (suc d)) ps) (sym z) (h .1)))
 
   -- it fits the walk
-  pub fits : ((r : Rule) → v .governing d ≡ some r → Starts (r .points)) → PlainDate v d → Fits v d
+  pub fits : ((r : Rule) → v .governing d ≡ some r → Starts (r .points)) → PlainDate v d → DateFits v d
   unfolding spans clip reach
   fits starts plain =
       let both = go (v .governing d) refl (plain .points) in

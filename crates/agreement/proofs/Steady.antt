@@ -10,7 +10,7 @@ use lib.IntN.{ℤ, pos, negsuc}
 use lib.Signed.{leZ}
 use Rattle.wire.proofs.Signs.{and-true}
 use Rattle.calendar.specs.Answers.{firstDay, lastDay, zeroDay}
-use Rattle.zone.specs.Units.{dayNs, mostOffset, mostNs, offsetNs, readingDay, instantOf, secondsInstant}
+use Rattle.zone.specs.Units.{dayNs, mostOffset, mostOffsetNs, offsetNs, readingDay, instantOf, secondsInstant}
 use Rattle.zone.specs.Zone.{Zone, zoneOf, changesOf, lastOffset, offsetAt}
 use Rattle.zone.specs.Answers.{Valid}
 use Rattle.zone.proofs.Offsets.{offset-most}
@@ -20,7 +20,7 @@ use Rattle.venue.specs.Opening.{offsetOf, transitionsOf, rulesOf, atsOf, offset
 use Rattle.venue.specs.Reading.{GoodRule}
 use Rattle.venue.proofs.Laws.{zone-valid}
 use Rattle.spans.specs.Timeline.{Venue, Part, midnight}
-use Rattle.day.specs.Governing.{governing}
+use Rattle.day.specs.Governing.{governingRule}
 use Rattle.day.specs.Days.{Held, valuesOf, venueBy}
 use Rattle.day.proofs.Listed.{governing-listed, source-good}
 use Rattle.query.specs.Judging.{windowRefusal}
@@ -43,10 +43,10 @@ module _ (first : ℕ) (ats os : List ℕ) (ok : Valid first ats os) (g : ℕ �
       (small : o ≤ 2 * mostOffset) (steady : (t : ℕ) → w .start ≤ t + 4 * dayNs → t ≤ w .end + 4 * dayNs → offsetAt z t ≡ o) where
     -- the date on which it starts, and the last that it meets
     abbrev start : ℕ
-    start = readingDay (w .start + offsetNs o - mostNs)
+    start = readingDay (w .start + offsetNs o - mostOffsetNs)
 
     abbrev last : ℕ
-    last = readingDay (w .end - 1 + offsetNs o - mostNs)
+    last = readingDay (w .end - 1 + offsetNs o - mostOffsetNs)
 
     date : (d : ℕ) → start ≤ suc d → d ≤ suc last → PlainDate v d
     date d a b = steady-date first ats os ok g good d o (omega arith) (omega arith) small (λ t l h. steady t (omega arith) (omega arith))
@@ -93,7 +93,7 @@ module _ (s : List ℕ) (c : Coverage) (named : Names s c) (start end : ℤ) (pa
       let ok = zone-valid s (named .accepted) c (named .coverage) in
       let small = offset-most (offsetOf (c .offset)) (atsOf rs) (offsetsOf rs) (instantOf start) ok in
       subst (PlainFor rs (window start end)) (sym (named .coverage))
-      (steady-window (offsetOf (c .offset)) (atsOf rs) (offsetsOf rs) ok (governing (rulesOf rs))
+      (steady-window (offsetOf (c .offset)) (atsOf rs) (offsetsOf rs) ok (governingRule (rulesOf rs))
       (λ d r g. source-good s r (governing-listed s (named .accepted) d r g)) (window start end) o order (omega arith) (omega arith)
       (subst (λ (k : ℕ). k ≤ 2 * mostOffset) (steady (instantOf start) (omega arith) (omega arith)) small) steady short)
 

@@ -15,7 +15,7 @@ use Rattle.spans.proofs.Totals.{same-count}
 use Rattle.day.specs.Days.{Values, valuesOf, pointOf}
 use Rattle.query.specs.Judging.{windowRefusal}
 use Rattle.query.proofs.Order.{window-passed}
-use Rattle.tell.specs.Shown.{Shown}
+use Rattle.span_records.specs.Shown.{Shown}
 use Rattle.timeline.specs.Segments.{markOf, segments, showing, timelineOf}
 use Rattle.point.specs.Said.{pointMark}
 use Rattle.zone.specs.Units.{instantOf}

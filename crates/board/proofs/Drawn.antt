@@ -18,10 +18,10 @@ use Rattle.rows.specs.Rows.{goodRow, segments, segmentsAt, shownAt}
 use Rattle.rows.specs.Telling.{markOf, segmentOf, spanOf, endOf}
 use Rattle.rows.specs.declared.Shows.{Shows}
 use Rattle.rows.specs.declared.Shows.the-variants.{Phase}
-use Rattle.rows.specs.declared.Segment.{Segment}
+use Rattle.rows.specs.declared.RowSegment.{RowSegment}
 use Rattle.rows.proofs.Laws.{good-within, InRow, row-in, Segmented, row-on, row-split}
 use Rattle.board.specs.Cells.{cellInstant, phaseGlyph, glyph, cellOr, cell, cellsFrom, drawn}
-use Rattle.board.specs.Private.{Good, alike, Filled}
+use Rattle.board.specs.Private.{Good, alike, CellsFilled}
 use Rattle.board.specs.declared.grid.Grid.{Grid}
 use Rattle.board.proofs.Columns.{instant-rises, instant-in}
 
@@ -132,7 +132,7 @@ module _ (g : Grid) (o : Good g) (first limit byte : ℕ) (old : List ℕ) (room
             go (yes b) = f .before i p b
             go (no b) = let z : i ≡ c = omega (arith, j, r, b) in rw z (omega (arith, e, l))
 
-    pub fill-limit : (t : ℕ) → t ≡ cellInstant g c → limit ≤ t → Filled g first limit byte old new c
+    pub fill-limit : (t : ℕ) → t ≡ cellInstant g c → limit ≤ t → CellsFilled g first limit byte old new c
     fill-limit t e l =
         record {
           same = f .same;
@@ -143,7 +143,7 @@ module _ (g : Grid) (o : Good g) (first limit byte : ℕ) (old : List ℕ) (room
           behind = λ i a b. let r = instant-rises g o c i a in omega arith;
         }
 
-    pub fill-end : g .columns ≤ c → Filled g first limit byte old new c
+    pub fill-end : g .columns ≤ c → CellsFilled g first limit byte old new c
     fill-end h =
         record {
           same = f .same;
@@ -188,7 +188,7 @@ module _ (g : Grid) (ss : List (Span Rows.Seen)) (old : List ℕ) (room : g .col
   unfolding cellsFrom
   paint-start = record { same = sym (wrote-nothing old 1); inside = omega arith; kept = refl }
 
-  pub paint-more : (new : List ℕ) (c : ℕ) → Painted g ss old new c → (limit byte : ℕ) (newer : List ℕ) (d : ℕ) → Filled g c limit byte new newer d
+  pub paint-more : (new : List ℕ) (c : ℕ) → Painted g ss old new c → (limit byte : ℕ) (newer : List ℕ) (d : ℕ) → CellsFilled g c limit byte new newer d
       → ((i : ℕ) → c ≤ i → i < d → glyph (shownAt ss (cellInstant g i)) ≡ byte) → Painted g ss old newer d
   paint-more new c p limit byte newer d f e =
       let n = d - c in
@@ -229,7 +229,7 @@ module _ (g : Grid) (o : Good g) (s old : List ℕ) (room : g .columns + 2 ≤ l
 
   module _ (new : List ℕ) (at c : ℕ) (d : Drawing g s old new at c) where
     -- nothing more stands in the row: the other cells are blank
-    module _ (none-left : segmentsAt s at ≡ []) (newer : List ℕ) (r : ℕ) (f : Filled g c (2 ^ 64 - 1) (glyph none) new newer r) where
+    module _ (none-left : segmentsAt s at ≡ []) (newer : List ℕ) (r : ℕ) (f : CellsFilled g c (2 ^ 64 - 1) (glyph none) new newer r) where
       pub all-filled : r ≡ g .columns
       all-filled = go (decLt r (g .columns))
         where
@@ -256,9 +256,9 @@ module _ (g : Grid) (o : Good g) (s old : List ℕ) (room : g .columns + 2 ≤ l
           }
 
     -- a segment: blank up to it, then its glyph
-    module _ (x : Segment) (is : x ≡ segmentOf s at) (t : Segmented s at) (mid newer : List ℕ) (held r : ℕ) (byte : ℕ)
-        (f : Filled g c (x .from .0) (glyph none) new mid held) (e : byte ≡ glyph (some (markOf (x .shows))))
-        (h : Filled g held (x .to .0) byte mid newer r) where
+    module _ (x : RowSegment) (is : x ≡ segmentOf s at) (t : Segmented s at) (mid newer : List ℕ) (held r : ℕ) (byte : ℕ)
+        (f : CellsFilled g c (x .from .0) (glyph none) new mid held) (e : byte ≡ glyph (some (markOf (x .shows))))
+        (h : CellsFilled g held (x .to .0) byte mid newer r) where
       abbrev span : Span Rows.Seen
       span = spanOf s x
 

@@ -46,7 +46,7 @@ alike g byte zero c = []
 alike g byte (suc n) c = cellOr (g .marker) c byte ∷ alike g byte n (suc c)
 
 -- The cells from `first` to before r have instants before the limit and were written alike; those from r on do not.
-pub record Filled (g : Grid) (first limit byte : ℕ) (old new : List ℕ) (r : ℕ) : Type 0 where
+pub record CellsFilled (g : Grid) (first limit byte : ℕ) (old new : List ℕ) (r : ℕ) : Type 0 where
   pub same : new ≡ wrote old (1 + first) (alike g byte (r - first) first)
   pub after : first ≤ r
   pub inside : r ≤ g .columns

@@ -10,7 +10,7 @@ ghost use Rattle.lend.specs.Lending.{Lent};
 ghost use Rattle.rows.specs.Rows.{goodRow, segments};
 ghost use Rattle.rows.specs.Telling.{markOf};
 ghost use Rattle.board.specs.Cells.{phaseGlyph, glyph, cellOr, cellsFrom, judgedCells, text, cellsNumber, cellsAnswer};
-ghost use Rattle.board.specs.Private.{Good, PaceOf, ColumnOf, Filled};
+ghost use Rattle.board.specs.Private.{Good, PaceOf, ColumnOf, CellsFilled};
 use crate::TOO_MANY;
 use crate::grid::Column;
 use crate::grid::Grid;
@@ -33,7 +33,7 @@ use rows::BAD_ROW;
 use rows::Shows;
 use rows::end_of;
 use rows::good_row;
-use rows::segment_at;
+use rows::read_segment;
 use wire::Placed;
 use wire::place;
 
@@ -80,7 +80,7 @@ fn cell_or(marker: u64, c: u64, byte: u8) -> u8
 // The columns from a first one on whose instant is before a limit. Answers the column behind them.
 fn fill(out: &mut [u8], grid: Grid, pace: Pace, first: Column, limit: u64, byte: u8) -> Column
     requires { ⌜ Good grid × PaceOf grid pace × ColumnOf grid first × (grid .columns + 2 ≤ length (now out)) ⌝ }
-    ensures { λ r. ⌜ ColumnOf grid r × Filled grid (first .c) limit byte (now (out .entry)) (now (out .exit)) (r .c) ⌝ }
+    ensures { λ r. ⌜ ColumnOf grid r × CellsFilled grid (first .c) limit byte (now (out .entry)) (now (out .exit)) (r .c) ⌝ }
 {
     let mut column = first;
     while column.c < grid.columns {
@@ -109,7 +109,7 @@ fn put_cells(row: &[u8], grid: Grid, out: &mut [u8])
         if at == row.len() {
             column = fill(out, grid, pace, column, LAST, BLANK);
         } else {
-            let g = segment_at(row, at);
+            let g = read_segment(row, at);
             let from = g.from;
             let to = g.to;
             let shows = g.shows;

@@ -14,7 +14,7 @@ use Rattle.rows.specs.Rows.{segmentsAt, shownAt}
 use Rattle.rows.specs.Telling.{markOf, segmentOf, spanOf, endOf, goodOn, markAt, rowsAt}
 use Rattle.rows.specs.declared.Shows.{Shows}
 use Rattle.rows.specs.declared.Shows.the-variants.{Phase}
-use Rattle.rows.specs.declared.Segment.{Segment}
+use Rattle.rows.specs.declared.RowSegment.{RowSegment}
 use Rattle.rows.proofs.Turns.{mark-holds}
 use Rattle.rows.proofs.Places.{holds as segment-holds, segments-end, mark-end, rows-end, segments-mark, mark-mark, rows-mark}
 use Rattle.rows.proofs.Steps.{Ends, Anew, Sees, Happens, Going, segment-going, event-going}
@@ -30,7 +30,7 @@ module _ (x : Shows) (p e : ℕ) (i : x ≡ Phase p e) (b : Bool) (j : b ≡ tra
   pub class-phase : cond b Trading NotTrading ≡ classOf (some (markOf x))
   class-phase = rw (i, j)
 
-module _ (g : Segment) (t : ℕ) where
+module _ (g : RowSegment) (t : ℕ) where
   pub class-early : t < g .from .0 → NotShown ≡ classIn g t
   class-early h = simp (holds-early (marks g) t h)
 
@@ -67,7 +67,7 @@ first-some m y = go m
     go unknown = refl
 
 -- the class by a segment and those behind it
-class-on : (s : List ℕ) (g : Segment) (ss : List (Span Rows.Seen)) (t : ℕ) → classAt (spanOf s g ∷ ss) t ≡ firstOf (classIn g t) (classAt ss t)
+class-on : (s : List ℕ) (g : RowSegment) (ss : List (Span Rows.Seen)) (t : ℕ) → classAt (spanOf s g ∷ ss) t ≡ firstOf (classIn g t) (classAt ss t)
 unfolding look
 class-on s g ss t = go (holds (marks g) t)
   where
@@ -123,7 +123,7 @@ module _ (allowed : Bool) (s : List ℕ) (start t : ℕ) where
           inside = m .inside;
         }
 
-    pub along-segment : Sees allowed s at least n → {g : Segment} → g ≡ segmentOf s at → {x y : Class} → x ≡ classIn g t → y ≡ firstOf shown x
+    pub along-segment : Sees allowed s at least n → {g : RowSegment} → g ≡ segmentOf s at → {x y : Class} → x ≡ classIn g t → y ≡ firstOf shown x
         → Along allowed s start t (g .behind) (g .to .0) (g .events) y
     along-segment o {g} e {x} {y} i j =
         let h = segment-holds s at (o .segment) in

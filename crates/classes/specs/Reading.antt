@@ -8,7 +8,7 @@ use lib.ListN.{length}
 use Rattle.spans.specs.Spans.{Mark, Span, holds}
 use Rattle.rows.specs.Rows.{segmentsAt}
 use Rattle.rows.specs.Telling.{markOf, goodOn, markAt, rowsAt}
-use Rattle.rows.specs.declared.Segment.{Segment}
+use Rattle.rows.specs.declared.RowSegment.{RowSegment}
 use Rattle.classes.specs.Classes.{classOf, classAt, one}
 use Rattle.classes.specs.declared.Class.{Class}
 use Rattle.classes.specs.declared.Class.the-variants.{Trading, NotTrading, NotKnown, NotShown}
@@ -18,13 +18,13 @@ use Rattle.classes.specs.declared.CountReply.{CountReply}
 use Rattle.classes.specs.declared.counting.Counts.{Counts}
 
 -- what a segment shows, and from when to when
-abbrev pub marks : Segment → Span Mark
+abbrev pub marks : RowSegment → Span Mark
 marks g = record { from = g .from .0; to = g .to .0; body = markOf (g .shows) }
 
 -- ---- classes
 
 -- by a segment alone
-abbrev pub classIn : Segment → ℕ → Class
+abbrev pub classIn : RowSegment → ℕ → Class
 classIn g t = cond (holds (marks g) t) (classOf (some (markOf (g .shows)))) NotShown
 
 abbrev pub firstOf : Class → Class → Class

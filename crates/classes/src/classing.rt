@@ -14,11 +14,11 @@ use query::OUTSIDE;
 use query::asked_at;
 use records::is_trading;
 use rows::BAD_ROW;
-use rows::Segment;
+use rows::RowSegment;
 use rows::Shows;
 use rows::Stands;
-use rows::event_at;
-use rows::segment_at;
+use rows::read_event;
+use rows::read_segment;
 use rows::stands_at;
 use wire::place;
 
@@ -44,7 +44,7 @@ fn class_of(shows: Shows) -> Class
 }
 
 // By a segment alone.
-fn class_in(g: Segment, t: u64) -> Class
+fn class_in(g: RowSegment, t: u64) -> Class
     ensures { λ r. ⌜ r ≡ classIn g t ⌝ }
 {
     let from = g.from;
@@ -92,7 +92,7 @@ pub(crate) fn row_class(rows: &[u8], start: usize, marks: bool, t: u64) -> Class
                 return Classed::More(shown, behind);
             }
             Stands::Segment => {
-                let g = segment_at(rows, at);
+                let g = read_segment(rows, at);
                 shown = first(shown, class_in(g, t));
                 let to = g.to;
                 at = g.behind;
@@ -100,7 +100,7 @@ pub(crate) fn row_class(rows: &[u8], start: usize, marks: bool, t: u64) -> Class
                 waiting = g.events;
             }
             Stands::Event => {
-                let e = event_at(rows, at);
+                let e = read_event(rows, at);
                 at = e.behind;
                 waiting -= 1;
             }

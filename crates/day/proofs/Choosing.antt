@@ -14,8 +14,8 @@ use Rattle.calendar.specs.Answers.{weekdayOf}
 use Rattle.records.specs.Records.{Rule, ruleAt}
 use Rattle.venue.specs.Opening.{dayOf}
 use Rattle.venue.specs.Reading.{ListedRule, ListedRules}
-use Rattle.day.specs.Governing.{precedence, marked, applies, takes, governingFrom, governing, governingPlace}
-use Rattle.day.specs.Meaning.{Stands, ruled, placeOf}
+use Rattle.day.specs.Governing.{precedence, marked, applies, takes, governingFrom, governingRule, governingPlace}
+use Rattle.day.specs.Meaning.{ListedGoverned, ruled, placeOf}
 use Rattle.day.specs.declared.Governed.{Governed}
 use Rattle.day.specs.declared.Governed.the-variants.{Nothing, By}
 use Rattle.day.proofs.Governs.{itsRule, governing-rule}
@@ -50,7 +50,7 @@ module _ (r : Rule) (d : ℕ) where
 
 -- ---- whether the rule at a place takes the place of the best so far
 
-pub stands-by : {best : Governed} {p : ℕ} → best ≡ By p → (s : List ℕ) → Stands s best → ListedRule s p
+pub stands-by : {best : Governed} {p : ℕ} → best ≡ By p → (s : List ℕ) → ListedGoverned s best → ListedRule s p
 stands-by z s h = rw z at h
 
 module _ (s : List ℕ) (best : Governed) (at d : ℕ) {on : Bool} (a : on ≡ applies (ruleAt s at) d) where
@@ -84,7 +84,7 @@ module _ (s : List ℕ) (best : Governed) (at d : ℕ) {on : Bool} (a : on ≡ a
 -- choosing from the best so far among those from the i-th on is choosing among all
 pub record Choosing (s rules : List ℕ) (d : ℕ) (best : Governed) (i : ℕ) : Type 0 where
   pub low : i ≤ length rules
-  pub stands : Stands s best
+  pub stands : ListedGoverned s best
   pub same : governingFrom (ruleAt s) (placeOf best) (drop i rules) d ≡ governingPlace s rules d
 
 ruled-by : (s : List ℕ) (r : Governed) → ruled s r ≡ itsRule (ruleAt s) (placeOf r)
@@ -95,11 +95,11 @@ pub choose-start : {s rules : List ℕ} {d : ℕ} → Choosing s rules d Nothing
 choose-start = record { low = omega arith; stands = tt; same = refl }
 
 -- a place that is chosen has the rule that governs
-pub placed : (s rules : List ℕ) (d : ℕ) (r : Governed) → placeOf r ≡ governingPlace s rules d → ruled s r ≡ governing (map (ruleAt s) rules) d
+pub placed : (s rules : List ℕ) (d : ℕ) (r : Governed) → placeOf r ≡ governingPlace s rules d → ruled s r ≡ governingRule (map (ruleAt s) rules) d
 placed s rules d r e = ruled-by s r ∙ ap (itsRule (ruleAt s)) e ∙ governing-rule (ruleAt s) d rules
 
 module _ {s rules : List ℕ} {d : ℕ} {best : Governed} {i : ℕ} (c : Choosing s rules d best i) where
-  pub chosen : length rules ≤ i → (ruled s best ≡ governing (map (ruleAt s) rules) d) × Stands s best × (placeOf best ≡ governingPlace s rules d)
+  pub chosen : length rules ≤ i → (ruled s best ≡ governingRule (map (ruleAt s) rules) d) × ListedGoverned s best × (placeOf best ≡ governingPlace s rules d)
   unfolding governingFrom
   chosen h =
       let e : i ≡ length rules = omega (arith, c .low) in

@@ -108,16 +108,16 @@ module _ (z : Zone) (r : Rule) (d : ℕ) where
   own-last i = refl
 
   -- the first n of them stand in an array
-  pub record Filled (a : List Boundary) (n : ℕ) : Type 0 where
+  pub record EdgesFilled (a : List Boundary) (n : ℕ) : Type 0 where
     pub long : length a ≡ suc (base .points)
     pub some-in : 1 ≤ n
     pub each : (j : ℕ) → j < n → at a j ≡ boundaryOf z r (edge j)
 
-  pub filled-first : (a : List Boundary) → length a ≡ suc (base .points) → at a 0 ≡ boundaryAt z d (timeOf 0) (published (r .uncertainty)) → Filled a 1
+  pub filled-first : (a : List Boundary) → length a ≡ suc (base .points) → at a 0 ≡ boundaryAt z d (timeOf 0) (published (r .uncertainty)) → EdgesFilled a 1
   filled-first a l e = record { long = l; some-in = omega arith; each = λ j h. let q : j ≡ 0 = omega arith in rw q (e ∙ own-first) }
 
-  pub filled-next : (a : List Boundary) (n m : ℕ) (b y : Boundary) → Filled a n → n < suc (base .points) → b ≡ raise m y → m ≡ at a (n - 1) .at .0
-      → y ≡ boundaryAt z d (timeOf n) (published (r .uncertainty)) → Filled (set a n b) (n + 1)
+  pub filled-next : (a : List Boundary) (n m : ℕ) (b y : Boundary) → EdgesFilled a n → n < suc (base .points) → b ≡ raise m y → m ≡ at a (n - 1) .at .0
+      → y ≡ boundaryAt z d (timeOf n) (published (r .uncertainty)) → EdgesFilled (set a n b) (n + 1)
   filled-next a n m b y f h e p q =
       record {
         long = length-set a n b ∙ f .long;
@@ -139,10 +139,10 @@ module _ (z : Zone) (r : Rule) (d : ℕ) where
 
   -- and behind them the next midnight
   pub record Ended (a : List Boundary) (n : ℕ) : Type 0 where
-    pub filled : Filled a n
+    pub filled : EdgesFilled a n
     pub end : at a n ≡ boundaryOf z r (last (n - 1))
 
-  pub ended : (a : List Boundary) (n m : ℕ) (b y : Boundary) → Filled a n → n < suc (base .points) → b ≡ raise m y → m ≡ at a (n - 1) .at .0
+  pub ended : (a : List Boundary) (n m : ℕ) (b y : Boundary) → EdgesFilled a n → n < suc (base .points) → b ≡ raise m y → m ≡ at a (n - 1) .at .0
       → y ≡ boundaryAt z (suc d) 0 (published (r .uncertainty)) → Ended (set a n b) n
   ended a n m b y f h e p q =
       record {
@@ -161,7 +161,7 @@ module _ (z : Zone) (r : Rule) (d : ℕ) where
   pub ended-at : {a : List Boundary} {n m : ℕ} → Ended a n → n ≡ m → Ended a m
   ended-at w e = rw⁻¹ e w
 
-  pub filled-at : {a : List Boundary} {n m : ℕ} → Filled a n → n ≡ m → Filled a m
+  pub filled-at : {a : List Boundary} {n m : ℕ} → EdgesFilled a n → n ≡ m → EdgesFilled a m
   filled-at w e = rw⁻¹ e w
 
   -- ---- the spans from the point k on

@@ -14,7 +14,7 @@ use Rattle.wire.proofs.Signs.{and-true}
 use Rattle.records.specs.Records.{Rule}
 use Rattle.records.proofs.Tests.{or-false}
 use Rattle.venue.specs.Opening.{dayOf}
-use Rattle.day.specs.Governing.{precedence, applies, notLower, takes, governingFrom, nth, Governs, governingOf, governing}
+use Rattle.day.specs.Governing.{precedence, applies, notLower, takes, governingFrom, nth, Governs, governingOf, governingRule}
 
 -- ---- not lower: by a number p, then by a number f
 
@@ -236,5 +236,5 @@ module _ {A : Type 0} (f : A → Rule) (d : ℕ) where
       go true e = rw⁻¹ e
       go false e = rw⁻¹ e
 
-  pub governing-rule : (xs : List A) → itsRule f (governingOf f xs d) ≡ governing (map f xs) d
+  pub governing-rule : (xs : List A) → itsRule f (governingOf f xs d) ≡ governingRule (map f xs) d
   governing-rule xs = rule-from none xs

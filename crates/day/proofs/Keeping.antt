@@ -15,10 +15,10 @@ use Rattle.records.specs.Limits.{base}
 use Rattle.records.specs.Records.{ruleAt}
 use Rattle.records.proofs.Tests.{or-false}
 use Rattle.venue.specs.Reading.{ListedRules}
-use Rattle.day.specs.Governing.{governing, governingPlace}
+use Rattle.day.specs.Governing.{governingRule, governingPlace}
 use Rattle.day.specs.Narrowing.{nearOf}
 use Rattle.day.specs.Keeping.{firstDay, dayBehind, keptPlaces, stretch, keptNumbers, keptAfter, Keeps, KeepsFor, keptFrom}
-use Rattle.day.specs.Meaning.{ruled, placeOf, Stands}
+use Rattle.day.specs.Meaning.{ruled, placeOf, ListedGoverned}
 use Rattle.day.specs.declared.Governed.{Governed}
 use Rattle.day.proofs.Narrowing.{near-governing, near-few, near-listed}
 use Rattle.day.proofs.Choosing.{placed}
@@ -123,8 +123,8 @@ module _ {s rules a : List ℕ} where
   part-listed k = subst (ListedRules s) (sym (part-is a)) (k .listed)
 
   -- what they choose
-  pub part-chosen : {d : ℕ} → KeepsFor s rules d a → (r : Governed) → Stands s r → placeOf r ≡ governingPlace s (part a) d
-      → (ruled s r ≡ governing (map (ruleAt s) rules) d) × Stands s r × (placeOf r ≡ governingPlace s rules d)
+  pub part-chosen : {d : ℕ} → KeepsFor s rules d a → (r : Governed) → ListedGoverned s r → placeOf r ≡ governingPlace s (part a) d
+      → (ruled s r ≡ governingRule (map (ruleAt s) rules) d) × ListedGoverned s r × (placeOf r ≡ governingPlace s rules d)
   part-chosen {d} k r h e =
       let is = e ∙ ap (λ (ps : List ℕ). governingPlace s ps d) (part-is a) ∙ k .keeps .same d (k .from) (k .before) in
       (placed s rules d r is, h, is)

@@ -18,7 +18,7 @@ use Rattle.venue.specs.Reading.{EachPoint, GoodRule, ListedRule, ListedRules}
 use Rattle.venue.proofs.Laws.{good-rule, places-listed, rules-listed}
 use Rattle.spans.specs.Spans.{Span, keep, In}
 use Rattle.spans.specs.Timeline.{Edge, Venue, raised, cut, ofPoints, ofRule, spans}
-use Rattle.day.specs.Governing.{governing, nth}
+use Rattle.day.specs.Governing.{governingRule, nth}
 use Rattle.day.specs.Days.{Held, venueBy}
 use Rattle.day.proofs.Governs.{governs}
 
@@ -36,15 +36,15 @@ from-places f (p ∷ ps) zero r e = (omega arith, cc)
 from-places f (p ∷ ps) (suc i) r e = let on = from-places f ps i r e in (omega arith, on .1)
 
 -- of rules at listed places, and of an accepted book's
-pub governing-source : (s rules : List ℕ) → ListedRules s rules → (d : ℕ) (r : Rule) → governing (map (ruleAt s) rules) d ≡ some r → Source s r
+pub governing-source : (s rules : List ℕ) → ListedRules s rules → (d : ℕ) (r : Rule) → governingRule (map (ruleAt s) rules) d ≡ some r → Source s r
 governing-source s rules listed d r g =
     let k = governs (λ (x : Rule). x) (map (ruleAt s) rules) d r g in
     let on = from-places (ruleAt s) rules (k .place) r (k .listed) in
     record { place = getD rules (k .place) 0; listed = listed (k .place) (on .0); is = on .1 }
 
-pub governing-listed : (s : List ℕ) → refusal base s ≡ 0 → (d : ℕ) (r : Rule) → governing (rulesOf (records s)) d ≡ some r → Source s r
+pub governing-listed : (s : List ℕ) → refusal base s ≡ 0 → (d : ℕ) (r : Rule) → governingRule (rulesOf (records s)) d ≡ some r → Source s r
 governing-listed s e d r g =
-    governing-source s (rulePlaces s) (places-listed ruleKind s e) d r (ap (λ (rs : List Rule). governing rs d) (rules-listed s e) ∙ g)
+    governing-source s (rulePlaces s) (places-listed ruleKind s e) d r (ap (λ (rs : List Rule). governingRule rs d) (rules-listed s e) ∙ g)
 
 pub source-good : (s : List ℕ) (r : Rule) → Source s r → GoodRule r
 source-good s r k = subst GoodRule (k .is) (good-rule s (k .place) (k .listed))

@@ -12,7 +12,7 @@ use Rattle.venue.specs.declared.opened.Opened.{Opened}
 use Rattle.venue.proofs.Laws.{rules-listed, events-listed}
 use Rattle.venue.proofs.Known.{Known}
 use Rattle.venue.proofs.Fronts.{ats-front, offsets-front, rules-front, events-front}
-use Rattle.day.specs.Governing.{governing}
+use Rattle.day.specs.Governing.{governingRule}
 use Rattle.day.specs.Days.{Values, valuesOf}
 use Rattle.day.specs.Meaning.{valuesAt}
 
@@ -25,7 +25,7 @@ opened-values s h k =
     values : List Rule → List Event → Values
     values rs es =
         let v = valuesOf (records s) (k .covered) in
-        record { coverage = v .coverage; zone = v .zone; governing = governing rs; events = es }
+        record { coverage = v .coverage; zone = v .zone; governing = governingRule rs; events = es }
 
 -- of the front slices of its arrays
 pub front-values : {s ats offsets rules events : List ℕ} {o : Opened} → Filled s o ats offsets rules events → {h : Header} (k : Known s h)

@@ -14,7 +14,7 @@ use Rattle.spans.proofs.Lists.{before}
 use Rattle.spans.proofs.Walking.{spans-within}
 use Rattle.day.specs.Days.{Held, venueBy, after, isKnown, holdsOn, holdingDate}
 use Rattle.venue.specs.Reading.{ListedRule}
-use Rattle.day.specs.Meaning.{held, heldBy, begun, Placed, Stands}
+use Rattle.day.specs.Meaning.{held, heldBy, begun, ChosenAt, ListedGoverned}
 use Rattle.day.specs.declared.Governed.{Governed}
 use Rattle.day.specs.declared.Governed.the-variants.{By}
 use Rattle.day.specs.declared.Spanned.{Spanned}
@@ -55,8 +55,8 @@ module _ (z : Zone) (g : ℕ → Option Rule) (d t : ℕ) where
   unfolding spans
   day-some r e o q = q ∙ ap (after t) (points-same z (λ x. none) g r d (r .points) ∙ sym (ap (ofRule (venueBy z g) d) e))
 
-pub stands-at : (s : List ℕ) {r : Governed} {p : ℕ} → Stands s r → r ≡ By p → ListedRule s p
-stands-at s h e = subst (Stands s) e h
+pub stands-at : (s : List ℕ) {r : Governed} {p : ℕ} → ListedGoverned s r → r ≡ By p → ListedRule s p
+stands-at s h e = subst (ListedGoverned s) e h
 
 -- ---- a span starts where its start boundary stands
 
@@ -128,11 +128,11 @@ begun-held s (Whole g) t = go (leb (g .start .at .0) t)
     go true = refl
     go false = refl
 
-pub begun-placed : (s : List ℕ) (o : Option ℕ) (r : Spanned) (t : ℕ) → Placed s o r → Placed s o (begun r t)
+pub begun-placed : (s : List ℕ) (o : Option ℕ) (r : Spanned) (t : ℕ) → ChosenAt s o r → ChosenAt s o (begun r t)
 begun-placed s o Missing t p = tt
 begun-placed s o (Whole g) t p = go (leb (g .start .at .0) t)
   where
-    go : (b : Bool) → Placed s o (cond b (Whole g) Missing)
+    go : (b : Bool) → ChosenAt s o (cond b (Whole g) Missing)
     go true = p
     go false = tt
 

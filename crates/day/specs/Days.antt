@@ -14,7 +14,7 @@ use Rattle.venue.specs.Opening.{offsetOf, atsOf, offsetsOf, rulesOf, eventsOf}
 use Rattle.venue.specs.Reading.{published}
 use Rattle.spans.specs.Spans.{Span, look}
 use Rattle.spans.specs.Timeline.{Edge, Venue, Part, pointAt, spans}
-use Rattle.day.specs.Governing.{governing}
+use Rattle.day.specs.Governing.{governingRule}
 
 -- a venue's values: coverage, zone, which rule governs a date, and the event rules
 pub record Values : Type 0 where
@@ -28,7 +28,7 @@ valuesOf rs c =
     record {
       coverage = record { start = instantOf (c .start); end = instantOf (c .end) };
       zone = zoneOf (offsetOf (c .offset)) (atsOf rs) (offsetsOf rs);
-      governing = governing (rulesOf rs);
+      governing = governingRule (rulesOf rs);
       events = eventsOf rs;
     }
 

@@ -46,8 +46,8 @@ abbrev pub governingOf : {A : Type 0} → (A → Rule) → List A → ℕ → Op
 governingOf f xs d = governingFrom f none xs d
 
 -- the rule that governs a date, and where it stands, of those at the places of a book
-abbrev pub governing : List Rule → ℕ → Option Rule
-governing rs d = governingOf (λ (r : Rule). r) rs d
+abbrev pub governingRule : List Rule → ℕ → Option Rule
+governingRule rs d = governingOf (λ (r : Rule). r) rs d
 
 abbrev pub governingPlace : List ℕ → List ℕ → ℕ → Option ℕ
 governingPlace s places d = governingOf (ruleAt s) places d

@@ -9,11 +9,11 @@ use Rattle.records.specs.Records.{Rule, ruleAt, eventAt}
 use Rattle.venue.specs.Reading.{ListedRule}
 use Rattle.venue.specs.declared.opened.Header.{Header}
 use mathlib.Core.Path.{_≡_}
-use Rattle.day.specs.Governing.{governing}
+use Rattle.day.specs.Governing.{governingRule}
 use Rattle.day.specs.Days.{Values, Held}
 use Rattle.day.specs.declared.Governed.{Governed}
 use Rattle.day.specs.declared.Governed.the-variants.{Nothing, By}
-use Rattle.day.specs.declared.Segment.{Segment}
+use Rattle.day.specs.declared.DaySegment.{DaySegment}
 use Rattle.day.specs.declared.Spanned.{Spanned}
 use Rattle.day.specs.declared.Spanned.the-variants.{Missing, Whole}
 
@@ -22,8 +22,8 @@ abbrev pub valuesAt : List ℕ → Header → List ℕ → List ℕ → List ℕ
 valuesAt s h ats offsets rules events =
     record {
       coverage = record { start = h .start .0; end = h .end .0 };
-      zone = zoneOf (h .first) ats offsets;
-      governing = governing (map (ruleAt s) rules);
+      zone = zoneOf (h .offset0) ats offsets;
+      governing = governingRule (map (ruleAt s) rules);
       events = map (eventAt s) events;
     }
 
@@ -37,11 +37,11 @@ placeOf Nothing = none
 placeOf (By p) = some p
 
 -- a rule stands where an answer says
-abbrev pub Stands : List ℕ → Governed → Type 0
-Stands s Nothing = Unit {0}
-Stands s (By p) = ListedRule s p
+abbrev pub ListedGoverned : List ℕ → Governed → Type 0
+ListedGoverned s Nothing = Unit {0}
+ListedGoverned s (By p) = ListedRule s p
 
-abbrev pub heldBy : List ℕ → Segment → Held
+abbrev pub heldBy : List ℕ → DaySegment → Held
 heldBy s g = record { start = g .start; end = g .end; phase = g .phase; rule = ruleAt s (g .rule) }
 
 abbrev pub held : List ℕ → Spanned → Option Held
@@ -49,9 +49,9 @@ held s Missing = none
 held s (Whole g) = some (heldBy s g)
 
 -- a rule stands where a segment says, and that is the place o
-abbrev pub Placed : List ℕ → Option ℕ → Spanned → Type 0
-Placed s o Missing = Unit {0}
-Placed s o (Whole g) = ListedRule s (g .rule) × (o ≡ some (g .rule))
+abbrev pub ChosenAt : List ℕ → Option ℕ → Spanned → Type 0
+ChosenAt s o Missing = Unit {0}
+ChosenAt s o (Whole g) = ListedRule s (g .rule) × (o ≡ some (g .rule))
 
 -- a span, if it has begun at t
 abbrev pub begun : Spanned → ℕ → Spanned

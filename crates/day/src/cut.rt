@@ -10,8 +10,8 @@ ghost use Rattle.records.specs.Records.{ruleAt};
 ghost use Rattle.venue.specs.Reading.{ListedRule};
 ghost use Rattle.spans.specs.Timeline.{ofPoints};
 ghost use Rattle.day.specs.Days.{venueBy, after};
-ghost use Rattle.day.specs.Meaning.{held, Placed};
-use crate::Segment;
+ghost use Rattle.day.specs.Meaning.{held, ChosenAt};
+use crate::DaySegment;
 use crate::Spanned;
 use calendar::Day;
 use calendar::LAST_DAY;
@@ -47,20 +47,20 @@ fn raised(before: Boundary, own: Boundary) -> Boundary
 
 // The midnight that ends a date. Past the dates in use all dates convert alike.
 pub fn midnight_after(
-    first: u32,
+    offset0: u32,
     ats: &[u64],
     offsets: &[u32],
     d: Day,
     published: Uncertainty,
 ) -> Boundary
-    requires { ⌜ Valid first (now ats) (now offsets) ⌝ }
-    ensures { λ r. ⌜ r ≡ boundaryAt (zoneOf first (now (ats .entry)) (now (offsets .entry))) (suc (d .0)) 0 published ⌝ }
+    requires { ⌜ Valid offset0 (now ats) (now offsets) ⌝ }
+    ensures { λ r. ⌜ r ≡ boundaryAt (zoneOf offset0 (now (ats .entry)) (now (offsets .entry))) (suc (d .0)) 0 published ⌝ }
 {
     let day = d.0;
     if LAST_CONVERTED < day {
-        return to_utc_at(first, ats, offsets, d, 0, published);
+        return to_utc_at(offset0, ats, offsets, d, 0, published);
     }
-    to_utc_at(first, ats, offsets, Day(day + 1), 0, published)
+    to_utc_at(offset0, ats, offsets, Day(day + 1), 0, published)
 }
 
 // Whether there is anything between two boundaries, and the second stands after t.
@@ -73,26 +73,26 @@ fn ends_after(start: Boundary, end: Boundary, t: Instant) -> bool
 }
 
 // The first span of a date, by the rule at a place, that ends after t.
-pub fn span_after(
+pub fn rule_segment_after(
     book: &[u8],
-    first: u32,
+    offset0: u32,
     ats: &[u64],
     offsets: &[u32],
     rule: u32,
     d: Day,
     t: Instant,
 ) -> Spanned
-    requires { ⌜ Valid first (now ats) (now offsets) × ListedRule (now book) rule ⌝ }
+    requires { ⌜ Valid offset0 (now ats) (now offsets) × ListedRule (now book) rule ⌝ }
     ensures { λ r. ⌜ (held (now (book .entry)) r
-        ≡ after (t .0) (ofPoints (venueBy (zoneOf first (now (ats .entry)) (now (offsets .entry))) (λ x. none))
+        ≡ after (t .0) (ofPoints (venueBy (zoneOf offset0 (now (ats .entry)) (now (offsets .entry))) (λ x. none))
         (ruleAt (now (book .entry)) rule) (d .0) (ruleAt (now (book .entry)) rule .points)))
-        × Placed (now (book .entry)) (some rule) r ⌝ }
+        × ChosenAt (now (book .entry)) (some rule) r ⌝ }
 {
     let place = rule as usize;
     let published = rule_uncertainty(book, place);
     let n = rule_points(book, place);
     let begin = to_utc_at(
-        first,
+        offset0,
         ats,
         offsets,
         d,
@@ -103,7 +103,7 @@ pub fn span_after(
     let mut i: usize = 1;
     while i < n {
         let own = to_utc_at(
-            first,
+            offset0,
             ats,
             offsets,
             d,
@@ -113,14 +113,14 @@ pub fn span_after(
         boundaries[i] = raised(boundaries[i - 1], own);
         i += 1;
     }
-    let midnight = midnight_after(first, ats, offsets, d, published);
+    let midnight = midnight_after(offset0, ats, offsets, d, published);
     boundaries[n] = raised(boundaries[n - 1], midnight);
     let mut k: usize = 0;
     while k < n {
         let start = boundaries[k];
         let end = boundaries[k + 1];
         if ends_after(start, end, t) {
-            return Spanned::Whole(Segment {
+            return Spanned::Whole(DaySegment {
                 start,
                 end,
                 phase: point_phase(book, place, k),

@@ -4,8 +4,8 @@ ghost use mathlib.Core.List.{map};
 ghost use Prim.Native.Nat.{_≤_};
 ghost use Rattle.records.specs.Records.{ruleAt};
 ghost use Rattle.venue.specs.Reading.{ListedRule, ListedRules};
-ghost use Rattle.day.specs.Governing.{precedence as Governing·precedence, marked as Governing·marked, applies as Governing·applies, takes as Governing·takes, governing as Governing·governing, governingPlace};
-ghost use Rattle.day.specs.Meaning.{Stands, ruled, placeOf};
+ghost use Rattle.day.specs.Governing.{precedence as Governing·precedence, marked as Governing·marked, applies as Governing·applies, takes as Governing·takes, governingRule, governingPlace};
+ghost use Rattle.day.specs.Meaning.{ListedGoverned, ruled, placeOf};
 use crate::Governed;
 use calendar::Day;
 use calendar::weekday;
@@ -51,7 +51,7 @@ fn applies(book: &[u8], at: usize, d: Day) -> bool
 
 // Whether a rule takes the place of the best so far.
 fn takes(book: &[u8], best: Governed, at: usize, d: Day) -> bool
-    requires { ⌜ ListedRule (now book) at × Stands (now book) best ⌝ }
+    requires { ⌜ ListedRule (now book) at × ListedGoverned (now book) best ⌝ }
     ensures { λ r. ⌜ r ≡ Governing·takes (ruleAt (now (book .entry))) (placeOf best) at (d .0) ⌝ }
 {
     if !applies(book, at, d) {
@@ -71,10 +71,10 @@ fn takes(book: &[u8], best: Governed, at: usize, d: Day) -> bool
 }
 
 // The rule that governs a date, of those that stand at the places given.
-pub fn governing(book: &[u8], rules: &[u32], d: Day) -> Governed
+pub fn governing_rule(book: &[u8], rules: &[u32], d: Day) -> Governed
     requires { ⌜ ListedRules (now book) (now rules) ⌝ }
-    ensures { λ r. ⌜ (ruled (now (book .entry)) r ≡ Governing·governing (map (ruleAt (now (book .entry))) (now (rules .entry))) (d .0))
-        × Stands (now (book .entry)) r × (placeOf r ≡ governingPlace (now (book .entry)) (now (rules .entry)) (d .0)) ⌝ }
+    ensures { λ r. ⌜ (ruled (now (book .entry)) r ≡ governingRule (map (ruleAt (now (book .entry))) (now (rules .entry))) (d .0))
+        × ListedGoverned (now (book .entry)) r × (placeOf r ≡ governingPlace (now (book .entry)) (now (rules .entry)) (d .0)) ⌝ }
 {
     let mut best = Governed::Nothing;
     let mut i: usize = 0;

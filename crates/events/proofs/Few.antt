@@ -6,7 +6,7 @@ use native.Mathlib.Omega.{arith}
 use lib.Dec.{leb}
 use lib.ListN.{length, getD, length-append, length-map}
 use Rattle.zone.specs.Zone.{Zone, zoneOf, dateAt}
-use Rattle.zone.specs.Units.{dayNs, mostNs, nearestInstant}
+use Rattle.zone.specs.Units.{dayNs, mostOffsetNs, nearestInstant}
 use Rattle.zone.specs.Answers.{Valid}
 use Rattle.zone.proofs.Domain.{date-small}
 use Rattle.zone.proofs.Offsets.{offset-most}
@@ -50,7 +50,7 @@ module _ (z : Zone) (from to : ℕ) where
       omega (arith, length-append (onDate z from to d es) (onDates z from to es (suc d) n), date-few d es f, dates-few es f (suc d) n h)
 
 -- the dates from a span's start to its end, where it is at most 56 hours long
-dates-near : (first : ℕ) (ats offsets : List ℕ) → Valid first ats offsets → (from to : ℕ) → to ≤ from + (dayNs + mostNs + mostNs)
+dates-near : (first : ℕ) (ats offsets : List ℕ) → Valid first ats offsets → (from to : ℕ) → to ≤ from + (dayNs + mostOffsetNs + mostOffsetNs)
     → dateAt (zoneOf first ats offsets) to ≤ dateAt (zoneOf first ats offsets) from + 4
 dates-near first ats offsets v from to h =
     let z = zoneOf first ats offsets in
@@ -79,7 +79,7 @@ found-few s first ats offsets events v a l from to =
 
 -- of at most 56 hours
 pub few : (s : List ℕ) (first : ℕ) (ats offsets events : List ℕ) → Valid first ats offsets → ListedEvents s events → length events ≤ base .events
-    → (from to : ℕ) → to ≤ from + (dayNs + mostNs + mostNs) → length (found (zoneOf first ats offsets) (map (eventAt s) events) from to) ≤ mostInSpan
+    → (from to : ℕ) → to ≤ from + (dayNs + mostOffsetNs + mostOffsetNs) → length (found (zoneOf first ats offsets) (map (eventAt s) events) from to) ≤ mostInSpan
 unfolding found
 few s first ats offsets events v a l from to h =
     let z = zoneOf first ats offsets in

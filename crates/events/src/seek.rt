@@ -30,17 +30,24 @@ use zone::to_utc_at;
 
 fn occurrence(
     book: &[u8],
-    first: u32,
+    offset0: u32,
     ats: &[u64],
     offsets: &[u32],
     event: usize,
     d: Day,
     time: u64,
 ) -> Occurrence
-    requires { ⌜ Valid first (now ats) (now offsets) × ListedEvent (now book) event ⌝ }
-    ensures { λ r. ⌜ r ≡ Happenings·occurrence (zoneOf first (now (ats .entry)) (now (offsets .entry))) (d .0) (eventAt (now (book .entry)) event) time ⌝ }
+    requires { ⌜ Valid offset0 (now ats) (now offsets) × ListedEvent (now book) event ⌝ }
+    ensures { λ r. ⌜ r ≡ Happenings·occurrence (zoneOf offset0 (now (ats .entry)) (now (offsets .entry))) (d .0) (eventAt (now (book .entry)) event) time ⌝ }
 {
-    let boundary = to_utc_at(first, ats, offsets, d, time, event_uncertainty(book, event));
+    let boundary = to_utc_at(
+        offset0,
+        ats,
+        offsets,
+        d,
+        time,
+        event_uncertainty(book, event),
+    );
     Occurrence {
         code: event_code(book, event),
         boundary,
@@ -97,7 +104,7 @@ fn met(s: Search, o: Occurrence) -> Search
 // The listed times of an event, on a date.
 fn on_times(
     book: &[u8],
-    first: u32,
+    offset0: u32,
     ats: &[u64],
     offsets: &[u32],
     event: usize,
@@ -106,9 +113,9 @@ fn on_times(
     to: Instant,
     s: Search,
 ) -> Search
-    requires { ⌜ Valid first (now ats) (now offsets) × ListedEvent (now book) event × (s .count ≤ 2 ^ 62) ⌝ }
+    requires { ⌜ Valid offset0 (now ats) (now offsets) × ListedEvent (now book) event × (s .count ≤ 2 ^ 62) ⌝ }
     ensures { λ r.
-        ⌜ (r ≡ sought s (onTimes (zoneOf first (now (ats .entry)) (now (offsets .entry))) (from .0) (to .0) (d .0)
+        ⌜ (r ≡ sought s (onTimes (zoneOf offset0 (now (ats .entry)) (now (offsets .entry))) (from .0) (to .0) (d .0)
         (eventAt (now (book .entry)) event) (eventAt (now (book .entry)) event .times)))
         × (r .count ≤ s .count + base .times) ⌝ }
 {
@@ -118,7 +125,7 @@ fn on_times(
     while i < times {
         let o = occurrence(
             book,
-            first,
+            offset0,
             ats,
             offsets,
             event,
@@ -136,7 +143,7 @@ fn on_times(
 // The listed events that have the date among their days.
 fn on_date(
     book: &[u8],
-    first: u32,
+    offset0: u32,
     ats: &[u64],
     offsets: &[u32],
     events: &[u32],
@@ -145,9 +152,9 @@ fn on_date(
     to: Instant,
     s: Search,
 ) -> Search
-    requires { ⌜ Valid first (now ats) (now offsets) × ListedEvents (now book) (now events) × (length (now events) ≤ base .events) × (s .count ≤ 2 ^ 61) ⌝ }
+    requires { ⌜ Valid offset0 (now ats) (now offsets) × ListedEvents (now book) (now events) × (length (now events) ≤ base .events) × (s .count ≤ 2 ^ 61) ⌝ }
     ensures { λ r.
-        ⌜ (r ≡ sought s (onDate (zoneOf first (now (ats .entry)) (now (offsets .entry))) (from .0) (to .0) (d .0)
+        ⌜ (r ≡ sought s (onDate (zoneOf offset0 (now (ats .entry)) (now (offsets .entry))) (from .0) (to .0) (d .0)
         (map (eventAt (now (book .entry))) (now (events .entry)))))
         × (r .count ≤ s .count + mostOnDate) ⌝ }
 {
@@ -156,7 +163,7 @@ fn on_date(
     while i < events.len() {
         let event = events[i] as usize;
         if (event_first(book, event).0 <= d.0) & (d.0 <= event_last(book, event).0) {
-            so_far = on_times(book, first, ats, offsets, event, d, from, to, so_far);
+            so_far = on_times(book, offset0, ats, offsets, event, d, from, to, so_far);
         }
         i += 1;
     }
@@ -167,7 +174,7 @@ fn on_date(
 // number `index` at the instant `at` on.
 pub fn search_events(
     book: &[u8],
-    first: u32,
+    offset0: u32,
     ats: &[u64],
     offsets: &[u32],
     events: &[u32],
@@ -176,27 +183,27 @@ pub fn search_events(
     at: Instant,
     index: usize,
 ) -> Search
-    requires { ⌜ Valid first (now ats) (now offsets) × ListedEvents (now book) (now events) × (length (now events) ≤ base .events) ⌝ }
+    requires { ⌜ Valid offset0 (now ats) (now offsets) × ListedEvents (now book) (now events) × (length (now events) ≤ base .events) ⌝ }
     ensures { λ r.
-        ⌜ (r ≡ sought (begin (at .0) index) (found (zoneOf first (now (ats .entry)) (now (offsets .entry)))
+        ⌜ (r ≡ sought (begin (at .0) index) (found (zoneOf offset0 (now (ats .entry)) (now (offsets .entry)))
         (map (eventAt (now (book .entry))) (now (events .entry))) (from .0) (to .0)))
         × (r .count ≤ 2 ^ 25) ⌝ }
 {
-    let begins = day_at(first, ats, offsets, from);
-    let ends = day_at(first, ats, offsets, to);
+    let begins = day_at(offset0, ats, offsets, from);
+    let ends = day_at(offset0, ats, offsets, to);
     let none = Search {
         at,
         index,
         count: 0,
         best: Best::None,
     };
-    let mut so_far = on_date(book, first, ats, offsets, events, begins, from, to, none);
+    let mut so_far = on_date(book, offset0, ats, offsets, events, begins, from, to, none);
     let mut date = begins.0;
     while date < ends.0 {
         date += 1;
         so_far = on_date(
             book,
-            first,
+            offset0,
             ats,
             offsets,
             events,
@@ -212,16 +219,16 @@ pub fn search_events(
 // How many events there are in the span from `from` to before `to`.
 pub fn count_events(
     book: &[u8],
-    first: u32,
+    offset0: u32,
     ats: &[u64],
     offsets: &[u32],
     events: &[u32],
     from: Instant,
     to: Instant,
 ) -> usize
-    requires { ⌜ Valid first (now ats) (now offsets) × ListedEvents (now book) (now events) × (length (now events) ≤ base .events) ⌝ }
+    requires { ⌜ Valid offset0 (now ats) (now offsets) × ListedEvents (now book) (now events) × (length (now events) ≤ base .events) ⌝ }
     ensures { λ r.
-        ⌜ (r ≡ length (found (zoneOf first (now (ats .entry)) (now (offsets .entry))) (map (eventAt (now (book .entry))) (now (events .entry))) (from .0) (to .0)))
+        ⌜ (r ≡ length (found (zoneOf offset0 (now (ats .entry)) (now (offsets .entry))) (map (eventAt (now (book .entry))) (now (events .entry))) (from .0) (to .0)))
         × (r ≤ 2 ^ 25) ⌝ }
 {
     if events.len() == 0 {
@@ -231,7 +238,7 @@ pub fn count_events(
     let mut which = [0u32; 0];
     match collect(
         book,
-        first,
+        offset0,
         ats,
         offsets,
         events,
@@ -242,7 +249,7 @@ pub fn count_events(
     ) {
         Collected::All(n) => n,
         Collected::Unsteady => {
-            let s = search_events(book, first, ats, offsets, events, from, to, Instant(0), 0);
+            let s = search_events(book, offset0, ats, offsets, events, from, to, Instant(0), 0);
             s.count
         }
     }

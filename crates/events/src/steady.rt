@@ -140,7 +140,7 @@ fn on_steady_dates(
 // the first of them kept, as many as there is room for.
 pub fn collect(
     book: &[u8],
-    first: u32,
+    offset0: u32,
     ats: &[u64],
     offsets: &[u32],
     events: &[u32],
@@ -149,15 +149,15 @@ pub fn collect(
     when: &mut [u64],
     which: &mut [u32],
 ) -> Collected
-    requires { ⌜ Valid first (now ats) (now offsets) × ListedEvents (now book) (now events) × (length (now events) ≤ base .events) ⌝ }
+    requires { ⌜ Valid offset0 (now ats) (now offsets) × ListedEvents (now book) (now events) × (length (now events) ≤ base .events) ⌝ }
     ensures { λ r.
-        ⌜ Collects (steadyIn (zoneOf first (now (ats .entry)) (now (offsets .entry))) (from .0) (to .0)) (now (book .entry)) (now (events .entry)) (from .0) (to .0)
+        ⌜ Collects (steadyIn (zoneOf offset0 (now (ats .entry)) (now (offsets .entry))) (from .0) (to .0)) (now (book .entry)) (now (events .entry)) (from .0) (to .0)
         (now (when .entry)) (now (which .entry)) r (now (when .exit)) (now (which .exit)) ⌝ }
 {
     if to.0 < from.0 {
         return Collected::Unsteady;
     }
-    match steady_offset(first, ats, offsets, from, to) {
+    match steady_offset(offset0, ats, offsets, from, to) {
         Steady::No => Collected::Unsteady,
         Steady::By(offset) => {
             let n = on_steady_dates(book, events, offset, from, to, when, which);

@@ -8,9 +8,9 @@ use lib.Dec.{eqb}
 use Rattle.wire.proofs.Signs.{and-true}
 use Rattle.spans.specs.Spans.{Span, sameMark, joins, joinedSpan}
 use Rattle.answer.specs.declared.Phase.{Phase}
-use Rattle.tell.specs.Shown.{Shown, headOf}
+use Rattle.span_records.specs.Shown.{Shown, headOf}
 use Rattle.joining.specs.Joining.{phases}
-use Rattle.joining.specs.Amending.{joinsLast, joinedHead}
+use Rattle.joining.specs.Amending.{isJoinable, mergedPhase}
 use Rattle.joining.specs.declared.Last.{Last}
 use Rattle.joining.specs.declared.Last.the-variants.{Shows}
 
@@ -22,7 +22,7 @@ abbrev pub headAt : Span Shown → Phase
 headAt s = headOf (s .from) (s .to) (s .body .held) (s .body .whole) (many s)
 
 -- the record of two that join
-pub both-heads : (s q : Span Shown) → joinedHead (headAt s) (headAt q) ≡ headAt (joinedSpan phases s q)
+pub both-heads : (s q : Span Shown) → mergedPhase (headAt s) (headAt q) ≡ headAt (joinedSpan phases s q)
 both-heads s q =
     ap (λ (n : ℕ). headOf (s .from) (q .to) (joinedSpan phases s q .body .held) (joinedSpan phases s q .body .whole) n)
     (sym (length-append (s .body .events) (q .body .events)))
@@ -32,7 +32,7 @@ abbrev pub lastAt : Span Shown → Last
 lastAt s = Shows (record { 0 = s .to }) (s .body .held .phase) (s .body .held .rule .evidence)
 
 abbrev pub joinsNext : Last → Span Shown → Bool
-joinsNext last q = joinsLast last (q .from) (q .body .held .phase) (q .body .held .rule .evidence)
+joinsNext last q = isJoinable last (q .from) (q .body .held .phase) (q .body .held .rule .evidence)
 
 -- a span that joins the one before shows what that showed
 pub same-last : (s q : Span Shown) → joins phases s q ≡ true → lastAt (joinedSpan phases s q) ≡ lastAt q

@@ -8,13 +8,13 @@ use Rattle.joining.specs.declared.Last.{Last}
 use Rattle.joining.specs.declared.Last.the-variants.{Nothing, Shows}
 
 -- what the last span showed, and whether a span from `from` on joins it
-abbrev pub joinsLast : Last → ℕ → ℕ → ℕ → Bool
-joinsLast Nothing from p e = false
-joinsLast (Shows to q f) from p e = eqb (to .0) from && (eqb q p && eqb f e)
+abbrev pub isJoinable : Last → ℕ → ℕ → ℕ → Bool
+isJoinable Nothing from p e = false
+isJoinable (Shows to q f) from p e = eqb (to .0) from && (eqb q p && eqb f e)
 
 -- the record of two spans that join
-abbrev pub joinedHead : Phase → Phase → Phase
-joinedHead a b =
+abbrev pub mergedPhase : Phase → Phase → Phase
+mergedPhase a b =
     record {
       start = a .start;
       end = b .end;

@@ -2,14 +2,14 @@
 use mathlib.Core.List.{_++_}
 use Rattle.zone.specs.Answers.{widestOf}
 use Rattle.spans.specs.Spans.{Mark, phase, Body}
-use Rattle.tell.specs.Shown.{Shown}
+use Rattle.span_records.specs.Shown.{Shown}
 
 abbrev pub phaseMark : Shown → Mark
 phaseMark x = phase (x .held .phase) (x .held .rule .evidence)
 
 -- left code, label, derived and start boundary kept, right end boundary, events appended unsorted, wider whole uncertainty
-abbrev pub joinedShown : Shown → Shown → Shown
-joinedShown a b =
+abbrev pub mergedShown : Shown → Shown → Shown
+mergedShown a b =
     record {
       held = record { start = a .held .start; end = b .held .end; phase = a .held .phase; rule = a .held .rule };
       whole = widestOf (a .whole) (b .whole);
@@ -17,4 +17,4 @@ joinedShown a b =
     }
 
 abbrev pub phases : Body Shown
-phases = record { mark = phaseMark; merge = joinedShown }
+phases = record { mark = phaseMark; merge = mergedShown }

@@ -2,7 +2,7 @@
 ghost use mathlib.Core.Path.{_≡_};
 ghost use Prim.Native.Nat.{_+_, _^_, _<_};
 ghost use mathlib.Core.Bool.{cond};
-ghost use Rattle.joining.specs.Amending.{joinsLast, joinedHead};
+ghost use Rattle.joining.specs.Amending.{isJoinable, mergedPhase};
 ghost use Rattle.joining.specs.declared.Last.the-variants.{Nothing, Shows};
 use answer::Phase;
 use zone::Instant;
@@ -15,8 +15,8 @@ pub enum Last {
 }
 
 // Whether a span from `from` on touches the last one and shows the same.
-pub fn joins(last: Last, from: Instant, phase: u8, evidence: u16) -> bool
-    ensures { λ r. ⌜ r ≡ joinsLast last (from .0) phase evidence ⌝ }
+pub fn is_joinable(last: Last, from: Instant, phase: u8, evidence: u16) -> bool
+    ensures { λ r. ⌜ r ≡ isJoinable last (from .0) phase evidence ⌝ }
 {
     match last {
         Last::Nothing => false,
@@ -35,9 +35,9 @@ pub fn last_of(begun: bool, until: Instant, phase: u8, evidence: u16) -> Last
 }
 
 // The record of two spans that join.
-pub fn joined(a: Phase, b: Phase) -> Phase
+pub fn merged(a: Phase, b: Phase) -> Phase
     requires { ⌜ a .events + b .events < 2 ^ 32 ⌝ }
-    ensures { λ r. ⌜ r ≡ joinedHead a b ⌝ }
+    ensures { λ r. ⌜ r ≡ mergedPhase a b ⌝ }
 {
     let start = a.start;
     let end = b.end;

@@ -18,7 +18,7 @@ use Rattle.rows.proofs.Places.{segments-end, segments-phase, segments-gap, segm
 use Rattle.answer.specs.Forms.{phaseSize, eventSize}
 use Rattle.listing.specs.Text.{decimal, instant, fields}
 use Rattle.listing.specs.Listing.{most, textBytes, headLine, segmentLine, eventLine, eventLines, segmentLines, allLines, rowText}
-use Rattle.listing.specs.Private.{Fits}
+use Rattle.listing.specs.Private.{TextFits}
 use Rattle.listing.proofs.Numbers.{decimal-64, instant-short}
 
 -- a field and those behind it
@@ -104,9 +104,9 @@ module _ (s : List ℕ) (b : Bytes s) where
       let f = head-short 0 (length (segments s)) (omega arith) (omega (arith, w .1)) in
       omega (arith, w .0, f, length-append (headLine 0 (length (segments s))) (allLines (segments s)))
 
-  pub row-fits : (out : List ℕ) → goodRow s ≡ true → length s ≤ most → textBytes ≤ length out → Fits 0 (rowText (segments s)) out
+  pub row-fits : (out : List ℕ) → goodRow s ≡ true → length s ≤ most → textBytes ≤ length out → TextFits 0 (rowText (segments s)) out
   row-fits out e h r = record { inside = omega (arith, row-short e h) }
 
 -- a line alone
-pub head-fits : (n count : ℕ) (out : List ℕ) → n < 2 ^ 64 → count < 2 ^ 64 → textBytes ≤ length out → Fits 0 (headLine n count) out
+pub head-fits : (n count : ℕ) (out : List ℕ) → n < 2 ^ 64 → count < 2 ^ 64 → textBytes ≤ length out → TextFits 0 (headLine n count) out
 head-fits n count out a b h = record { inside = omega (arith, head-short n count a b) }

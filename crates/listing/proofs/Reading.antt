@@ -7,7 +7,7 @@ use mathlib.Core.List.{List, [], _++_}
 use lib.ListN.{length}
 use Rattle.rows.specs.Rows.{goodRow, eventOf, eventsFrom, segments, segmentsAt}
 use Rattle.rows.specs.Telling.{segmentOf, spanOf, endOf}
-use Rattle.rows.specs.declared.Segment.{Segment}
+use Rattle.rows.specs.declared.RowSegment.{RowSegment}
 use Rattle.rows.proofs.Places.{segments-end}
 use Rattle.rows.proofs.Laws.{InRow, row-in, Segmented, end-after, row-on, row-split}
 use Rattle.answer.specs.Forms.{eventSize}
@@ -25,7 +25,7 @@ pub record Counting (s : List ℕ) (at seen : ℕ) : Type 0 where
 pub count-none : {s : List ℕ} → goodRow s ≡ true → Counting s 0 0
 count-none {s} e = record { here = row-in s e; all = omega arith; few = omega arith }
 
-pub count-one : {s : List ℕ} {at seen : ℕ} → Counting s at seen → Segmented s at → {g : Segment} → g ≡ segmentOf s at → Counting s (endOf g) (seen + 1)
+pub count-one : {s : List ℕ} {at seen : ℕ} → Counting s at seen → Segmented s at → {g : RowSegment} → g ≡ segmentOf s at → Counting s (endOf g) (seen + 1)
 count-one {s} {at} {seen} c t {g} e =
     let l = ap length (row-split t e) in
     record { here = row-on t e; all = omega (arith, c .all, l); few = omega (arith, c .few, end-after t e) }
@@ -36,7 +36,7 @@ count-over {s} {at} c e = let l = ap length (segments-end s at e) in omega (arit
 -- ---- segments are listed
 
 pub list-one : {old whole s new : List ℕ} {at from next : ℕ} → Going old at whole (allLines (segmentsAt s from)) new next → Segmented s from
-    → {g : Segment} → g ≡ segmentOf s from → Going old at whole (segmentLines (spanOf s g) ++ allLines (segmentsAt s (endOf g))) new next
+    → {g : RowSegment} → g ≡ segmentOf s from → Going old at whole (segmentLines (spanOf s g) ++ allLines (segmentsAt s (endOf g))) new next
 unfolding allLines
 list-one w t e = rw (row-split t e) at w
 

@@ -12,7 +12,7 @@ use Rattle.book_query.specs.Judging.{windowNumber}
 use Rattle.listing.specs.Listing.{roomNumber, rowText, headLine}
 
 -- there is room for a text from `at` on
-pub record Fits (at : ℕ) (vs s : List ℕ) : Type 0 where
+pub record TextFits (at : ℕ) (vs s : List ℕ) : Type 0 where
   pub inside : Inside at (length vs) s
 
 -- it is written there

@@ -1,8 +1,8 @@
 // What the listing program prints: the timeline of a window of a book as text, line by line.
-mod ask;
 mod lines;
+mod reply;
 mod text;
 
-pub use ask::MOST_BYTES;
-pub use ask::TEXT_BYTES;
-pub use ask::list_text;
+pub use reply::MOST_BYTES;
+pub use reply::TEXT_BYTES;
+pub use reply::list_text;

@@ -9,20 +9,20 @@ ghost use Rattle.rows.specs.Rows.{goodRow, segments, eventsFrom};
 ghost use Rattle.rows.specs.Telling.{markOf, spanOf};
 ghost use Rattle.answer.specs.Forms.{eventSize};
 ghost use Rattle.listing.specs.Listing.{headLine, segmentLine, eventLine, eventLines, segmentLines, allLines};
-ghost use Rattle.listing.specs.Private.{Fits, Puts};
+ghost use Rattle.listing.specs.Private.{TextFits, Puts};
 use crate::text::put_byte;
 use crate::text::put_instant;
 use crate::text::put_number;
 use crate::text::put_word;
-use rows::Segment;
+use rows::RowSegment;
 use rows::Shows;
 use rows::end_of;
-use rows::event_at;
-use rows::segment_at;
+use rows::read_event;
+use rows::read_segment;
 use wire::Placed;
 
 pub(crate) fn put_head(out: &mut [u8], at: usize, number: u32, count: usize) -> usize
-    requires { ⌜ Fits at (headLine number count) (now out) ⌝ }
+    requires { ⌜ TextFits at (headLine number count) (now out) ⌝ }
     ensures { λ r. ⌜ Puts (now (out .entry)) at (headLine number count) (now (out .exit)) r ⌝ }
 {
     let a = put_word(out, at, b"timeline");
@@ -32,7 +32,7 @@ pub(crate) fn put_head(out: &mut [u8], at: usize, number: u32, count: usize) -> 
 }
 
 fn put_phase(out: &mut [u8], at: usize, from: Placed, to: Placed, p: u8, evidence: u16) -> usize
-    requires { ⌜ Fits at (segmentLine (from .0) (to .0) (phase p evidence)) (now out) ⌝ }
+    requires { ⌜ TextFits at (segmentLine (from .0) (to .0) (phase p evidence)) (now out) ⌝ }
     ensures { λ r. ⌜ Puts (now (out .entry)) at (segmentLine (from .0) (to .0) (phase p evidence)) (now (out .exit)) r ⌝ }
 {
     let a = put_byte(out, at, b'P');
@@ -44,7 +44,7 @@ fn put_phase(out: &mut [u8], at: usize, from: Placed, to: Placed, p: u8, evidenc
 }
 
 fn put_unknown(out: &mut [u8], at: usize, from: Placed, to: Placed) -> usize
-    requires { ⌜ Fits at (segmentLine (from .0) (to .0) unknown) (now out) ⌝ }
+    requires { ⌜ TextFits at (segmentLine (from .0) (to .0) unknown) (now out) ⌝ }
     ensures { λ r. ⌜ Puts (now (out .entry)) at (segmentLine (from .0) (to .0) unknown) (now (out .exit)) r ⌝ }
 {
     let a = put_byte(out, at, b'U');
@@ -54,7 +54,7 @@ fn put_unknown(out: &mut [u8], at: usize, from: Placed, to: Placed) -> usize
 }
 
 fn put_event(out: &mut [u8], at: usize, when: Placed, code: u16) -> usize
-    requires { ⌜ Fits at (eventLine (record { at = when .0; code = code })) (now out) ⌝ }
+    requires { ⌜ TextFits at (eventLine (record { at = when .0; code = code })) (now out) ⌝ }
     ensures { λ r. ⌜ Puts (now (out .entry)) at (eventLine (record { at = when .0; code = code })) (now (out .exit)) r ⌝ }
 {
     let a = put_byte(out, at, b'E');
@@ -65,14 +65,14 @@ fn put_event(out: &mut [u8], at: usize, when: Placed, code: u16) -> usize
 
 // The lines of n events, which stand in the answer from `first` on.
 fn put_events(answer: &[u8], first: usize, n: u32, out: &mut [u8], at: usize) -> usize
-    requires { ⌜ Inside first (eventSize * n) (now answer) × Fits at (eventLines (eventsFrom (now answer) first n)) (now out) ⌝ }
+    requires { ⌜ Inside first (eventSize * n) (now answer) × TextFits at (eventLines (eventsFrom (now answer) first n)) (now out) ⌝ }
     ensures { λ r. ⌜ Puts (now (out .entry)) at (eventLines (eventsFrom (now (answer .entry)) first n)) (now (out .exit)) r ⌝ }
 {
     let mut place = at;
     let mut from = first;
     let mut left = n;
     while 0 < left {
-        let e = event_at(answer, from);
+        let e = read_event(answer, from);
         let when = e.at;
         place = put_event(out, place, when, e.code);
         from = e.behind;
@@ -82,7 +82,7 @@ fn put_events(answer: &[u8], first: usize, n: u32, out: &mut [u8], at: usize) ->
 }
 
 fn put_shown(out: &mut [u8], at: usize, from: Placed, to: Placed, shows: Shows) -> usize
-    requires { ⌜ Fits at (segmentLine (from .0) (to .0) (markOf shows)) (now out) ⌝ }
+    requires { ⌜ TextFits at (segmentLine (from .0) (to .0) (markOf shows)) (now out) ⌝ }
     ensures { λ r. ⌜ Puts (now (out .entry)) at (segmentLine (from .0) (to .0) (markOf shows)) (now (out .exit)) r ⌝ }
 {
     match shows {
@@ -92,8 +92,8 @@ fn put_shown(out: &mut [u8], at: usize, from: Placed, to: Placed, shows: Shows) 
 }
 
 // A segment of the answer, and its events below it.
-fn put_segment(answer: &[u8], g: Segment, out: &mut [u8], at: usize) -> usize
-    requires { ⌜ Inside (g .behind) (eventSize * g .events) (now answer) × Fits at (segmentLines (spanOf (now answer) g)) (now out) ⌝ }
+fn put_segment(answer: &[u8], g: RowSegment, out: &mut [u8], at: usize) -> usize
+    requires { ⌜ Inside (g .behind) (eventSize * g .events) (now answer) × TextFits at (segmentLines (spanOf (now answer) g)) (now out) ⌝ }
     ensures { λ r. ⌜ Puts (now (out .entry)) at (segmentLines (spanOf (now (answer .entry)) g)) (now (out .exit)) r ⌝ }
 {
     let from = g.from;
@@ -111,7 +111,7 @@ pub(crate) fn count(answer: &[u8]) -> usize
     let mut at: usize = 0;
     let mut seen: usize = 0;
     while at != answer.len() {
-        let g = segment_at(answer, at);
+        let g = read_segment(answer, at);
         seen += 1;
         at = end_of(g);
     }
@@ -120,13 +120,13 @@ pub(crate) fn count(answer: &[u8]) -> usize
 
 // The lines of all segments of a row.
 pub(crate) fn put_all(answer: &[u8], out: &mut [u8], at: usize) -> usize
-    requires { ⌜ (goodRow (now answer) ≡ true) × Fits at (allLines (segments (now answer))) (now out) ⌝ }
+    requires { ⌜ (goodRow (now answer) ≡ true) × TextFits at (allLines (segments (now answer))) (now out) ⌝ }
     ensures { λ r. ⌜ Puts (now (out .entry)) at (allLines (segments (now (answer .entry)))) (now (out .exit)) r ⌝ }
 {
     let mut from: usize = 0;
     let mut place = at;
     while from != answer.len() {
-        let g = segment_at(answer, from);
+        let g = read_segment(answer, from);
         place = put_segment(answer, g, out, place);
         from = end_of(g);
     }

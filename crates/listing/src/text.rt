@@ -2,20 +2,20 @@
 ghost use Prim.Native.Nat.{_<_};
 ghost use mathlib.Core.List.{[], _∷_};
 ghost use Rattle.listing.specs.Text.{space, digit, decimal, instant};
-ghost use Rattle.listing.specs.Private.{Fits, Puts};
+ghost use Rattle.listing.specs.Private.{TextFits, Puts};
 use wire::HALF8;
 use wire::Placed;
 use wire::put1;
 
 pub(crate) fn put_byte(out: &mut [u8], at: usize, b: u8) -> usize
-    requires { ⌜ Fits at (b ∷ []) (now out) ⌝ }
+    requires { ⌜ TextFits at (b ∷ []) (now out) ⌝ }
     ensures { λ r. ⌜ Puts (now (out .entry)) at (b ∷ []) (now (out .exit)) r ⌝ }
 {
     put1(out, at, b)
 }
 
 pub(crate) fn put_word(out: &mut [u8], at: usize, word: &[u8]) -> usize
-    requires { ⌜ Fits at (now word) (now out) ⌝ }
+    requires { ⌜ TextFits at (now word) (now out) ⌝ }
     ensures { λ r. ⌜ Puts (now (out .entry)) at (now (word .entry)) (now (out .exit)) r ⌝ }
 {
     let mut place = at;
@@ -28,14 +28,14 @@ pub(crate) fn put_word(out: &mut [u8], at: usize, word: &[u8]) -> usize
 }
 
 fn put_digit(out: &mut [u8], at: usize, d: u64) -> usize
-    requires { ⌜ (d < 10) × Fits at (digit d ∷ []) (now out) ⌝ }
+    requires { ⌜ (d < 10) × TextFits at (digit d ∷ []) (now out) ⌝ }
     ensures { λ r. ⌜ Puts (now (out .entry)) at (digit d ∷ []) (now (out .exit)) r ⌝ }
 {
     put_byte(out, at, b'0' + d as u8)
 }
 
 fn put_decimal(out: &mut [u8], at: usize, n: u64) -> usize
-    requires { ⌜ Fits at (decimal n) (now out) ⌝ }
+    requires { ⌜ TextFits at (decimal n) (now out) ⌝ }
     ensures { λ r. ⌜ Puts (now (out .entry)) at (decimal n) (now (out .exit)) r ⌝ }
 {
     if n < 10 {
@@ -47,7 +47,7 @@ fn put_decimal(out: &mut [u8], at: usize, n: u64) -> usize
 
 // A number behind a space.
 pub(crate) fn put_number(out: &mut [u8], at: usize, n: u64) -> usize
-    requires { ⌜ Fits at (space ∷ decimal n) (now out) ⌝ }
+    requires { ⌜ TextFits at (space ∷ decimal n) (now out) ⌝ }
     ensures { λ r. ⌜ Puts (now (out .entry)) at (space ∷ decimal n) (now (out .exit)) r ⌝ }
 {
     let next = put_byte(out, at, b' ');
@@ -55,7 +55,7 @@ pub(crate) fn put_number(out: &mut [u8], at: usize, n: u64) -> usize
 }
 
 fn put_signed(out: &mut [u8], at: usize, p: Placed) -> usize
-    requires { ⌜ Fits at (instant (p .0)) (now out) ⌝ }
+    requires { ⌜ TextFits at (instant (p .0)) (now out) ⌝ }
     ensures { λ r. ⌜ Puts (now (out .entry)) at (instant (p .0)) (now (out .exit)) r ⌝ }
 {
     let x = p.0;
@@ -68,7 +68,7 @@ fn put_signed(out: &mut [u8], at: usize, p: Placed) -> usize
 
 // An instant behind a space.
 pub(crate) fn put_instant(out: &mut [u8], at: usize, p: Placed) -> usize
-    requires { ⌜ Fits at (space ∷ instant (p .0)) (now out) ⌝ }
+    requires { ⌜ TextFits at (space ∷ instant (p .0)) (now out) ⌝ }
     ensures { λ r. ⌜ Puts (now (out .entry)) at (space ∷ instant (p .0)) (now (out .exit)) r ⌝ }
 {
     let next = put_byte(out, at, b' ');

@@ -15,7 +15,7 @@ use Rattle.zone.proofs.Domain.{instantZero, instant-placed}
 use Rattle.records.specs.Records.{Coverage}
 use Rattle.records.specs.Valid.{Bytes}
 use Rattle.spans.specs.Spans.{look}
-use Rattle.query.proofs.Order.{Kept, window-passed}
+use Rattle.query.proofs.Order.{GivenBack, window-passed}
 use Rattle.rows.specs.Rows as Rows
 use Rattle.timeline.specs.Asking.{windowAnswer}
 use Rattle.point.specs.Asking.{pointAnswer}
@@ -31,7 +31,7 @@ use Rattle.rows.specs.Rows.{shownIn}
 use Rattle.market_time.proofs.Plain.{passes, timeline-is-points}
 
 -- an integer that its instant gives back, placed
-placed-kept : (z : ℤ) → Kept z → (z ≡ meant w64 (instantOf z + instantZero)) × (placed w64 z ≡ instantOf z + instantZero)
+placed-kept : (z : ℤ) → GivenBack z → (z ≡ meant w64 (instantOf z + instantZero)) × (placed w64 z ≡ instantOf z + instantZero)
 placed-kept z k =
     let m = sym k ∙ instant-placed (instantOf z) in
     (m, ap (placed w64) m ∙ placed-meant w64 (instantOf z + instantZero))

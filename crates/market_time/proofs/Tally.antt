@@ -25,7 +25,7 @@ use Rattle.query.specs.Judging.{windowRefusal}
 use Rattle.query.proofs.Order.{window-passed}
 use Rattle.answer.specs.Forms.{Form, day, tally, encodeAll}
 use Rattle.answer.specs.Meaning.{totalsOf}
-use Rattle.tell.specs.Shown.{Shown}
+use Rattle.span_records.specs.Shown.{Shown}
 use Rattle.timeline.specs.Segments.{segments, timelineOf}
 use Rattle.timeline.specs.Asking.{segmentsBy}
 use Rattle.point.specs.Asking.{pointAnswer}
@@ -34,7 +34,7 @@ use Rattle.point.proofs.Said.{point-said}
 use Rattle.plain.specs.Books.{window, Plain}
 use Rattle.agreement.specs.Books.{Names}
 use Rattle.agreement.proofs.Tallied.{phase-instants, outside-instants, hole-instants}
-use Rattle.pages.specs.Rows.{rowEnd, rowsFrom, rowsOf, rowTotals, dayForm, formsBy}
+use Rattle.tally_rows.specs.Rows.{rowEnd, rowsFrom, rowsOf, rowTotals, dayForm, formsBy}
 use Rattle.tally.specs.Tallying.{tallyAnswer, tooLong, tallyNumber}
 use Rattle.book_query.specs.Judging.{windowNumber}
 

@@ -19,7 +19,7 @@ use Rattle.venue.specs.Opening.{coverageOf, atsOf, offsetsOf, rulePlaces}
 use Rattle.venue.specs.declared.opened.Header.{Header}
 use Rattle.venue.proofs.Known.{Known}
 use Rattle.spans.specs.Timeline.{Venue, Part, midnight}
-use Rattle.day.specs.Governing.{governing}
+use Rattle.day.specs.Governing.{governingRule}
 use Rattle.day.specs.Days.{Values, Held, valuesOf, venueBy, venueOf}
 use Rattle.day.proofs.Opened.{opened-values}
 use Rattle.zone.specs.Units.{instantOf}
@@ -215,7 +215,7 @@ book-decides s start end h = go (coverageOf (records s))
 
 -- as the code answers it, over an opened book
 pub opened-decides : (s : List ℕ) (h : Header) (k : Known s h) (w : Part) (r : Bool)
-    → Decides r (PlainWindow (venueBy (zoneOf (h .first) (atsOf (records s)) (offsetsOf (records s))) (governing (map (ruleAt s) (rulePlaces s)))) w)
+    → Decides r (PlainWindow (venueBy (zoneOf (h .offset0) (atsOf (records s)) (offsetsOf (records s))) (governingRule (map (ruleAt s) (rulePlaces s)))) w)
     → Decides r (PlainFor (records s) w (coverageOf (records s)))
 opened-decides s h k w r d =
     subst (λ (o : Option Coverage). Decides r (PlainFor (records s) w o)) (sym (k .is))

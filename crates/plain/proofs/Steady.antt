@@ -5,7 +5,7 @@ use mathlib.Core.Option.{Option, none, some}
 use Prim.Native.Nat.{ℕ, suc, _+_, _-_, _*_, _≤_, _<_}
 use native.Mathlib.Omega.{arith}
 use Rattle.calendar.specs.Answers.{firstDay, lastDay}
-use Rattle.zone.specs.Units.{dayNs, mostOffset, mostNs, offsetNs, nearestInstant, nearestReading, readingAt, readingDay}
+use Rattle.zone.specs.Units.{dayNs, mostOffset, mostOffsetNs, offsetNs, nearestInstant, nearestReading, readingAt, readingDay}
 use Rattle.zone.specs.Zone.{Zone, zoneOf, offsetAt, dateAt, readingOf, instantBy, resolve}
 use Rattle.zone.specs.Answers.{Valid, taken}
 use Rattle.zone.specs.Steady.{steadyUntil}
@@ -15,7 +15,7 @@ use Rattle.zone.proofs.Until.{until-in, until-steady}
 use Rattle.records.specs.Records.{Point, Rule, ruleAt}
 use Rattle.venue.specs.Reading.{Rising, FromMidnight, EachPoint, GoodRule, ListedRules}
 use Rattle.spans.specs.Timeline.{Venue, midnight}
-use Rattle.day.specs.Governing.{governing}
+use Rattle.day.specs.Governing.{governingRule}
 use Rattle.day.specs.Days.{Held, venueBy}
 use Rattle.day.proofs.Listed.{governing-source, source-good}
 use Rattle.plain.specs.Plain.{Rises, InOrder, PlainDate}
@@ -63,8 +63,8 @@ module _ (first : ℕ) (ats os : List ℕ) (ok : Valid first ats os) (g : ℕ �
     reading : (t : ℕ) → midnight v d ≤ t → t < midnight v (suc d) → dateAt z t ≡ d
     reading t a b =
         let near : nearestInstant t ≡ t = omega (arith, begins-at, ends-at) in
-        let is : readingOf z t ≡ t + offsetNs o - mostNs =
-        ap₂ (λ (i j : ℕ). i + offsetNs j - mostNs) near (ap (offsetAt z) near ∙ steady t (omega (arith, begins-at)) (omega (arith, ends-at))) in
+        let is : readingOf z t ≡ t + offsetNs o - mostOffsetNs =
+        ap₂ (λ (i j : ℕ). i + offsetNs j - mostOffsetNs) near (ap (offsetAt z) near ∙ steady t (omega (arith, begins-at)) (omega (arith, ends-at))) in
         ap readingDay is ∙ omega (arith, begins-at, ends-at)
 
     pub steady-date : PlainDate v d
@@ -72,9 +72,9 @@ module _ (first : ℕ) (ats os : List ℕ) (ok : Valid first ats os) (g : ℕ �
 
 -- a date before the first near which the clock changes, of rules at listed places
 pub until-plain : (s : List ℕ) (first : ℕ) (ats os rules : List ℕ) → Valid first ats os → ListedRules s rules
-    → (d e : ℕ) → d ≤ e → e < steadyUntil ats d → PlainDate (venueBy (zoneOf first ats os) (governing (map (ruleAt s) rules))) e
+    → (d e : ℕ) → d ≤ e → e < steadyUntil ats d → PlainDate (venueBy (zoneOf first ats os) (governingRule (map (ruleAt s) rules))) e
 until-plain s first ats os rules ok listed d e from before =
     let in-use = until-in ats d e from before in
-    steady-date first ats os ok (governing (map (ruleAt s) rules)) (λ c r g. source-good s r (governing-source s rules listed c r g)) e
+    steady-date first ats os ok (governingRule (map (ruleAt s) rules)) (λ c r g. source-good s r (governing-source s rules listed c r g)) e
     (offsetAt (zoneOf first ats os) ((d - 1) * dayNs)) (in-use .0) (in-use .1) (offset-most first ats os ((d - 1) * dayNs) ok)
     (until-steady ats d e from before first os ok)

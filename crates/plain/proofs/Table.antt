@@ -5,14 +5,14 @@ use mathlib.Core.List.{List, [], _∷_, map}
 use borrow.Author.Tests.{ltb-true}
 use Rattle.zone.specs.Units.{instantOf}
 use Rattle.plain.specs.Deciding.{Decides}
-use Rattle.plain.specs.Examples.{Case, table, bytesOf, startOf, endOf, told, answers, forward, forwards, Says, Each, Holds}
+use Rattle.plain.specs.Examples.{Case, table, bytesOf, startOf, endOf, told, answers, forward, forwards, Says, Each, CaseHolds}
 use Rattle.plain.proofs.Deciding.{no-test, book-decides}
 
 says : {P : Type 0} (b q : Bool) → Decides b P → b ≡ q → Says q P
 says b true d e = d .yes e
 says b false d e = λ p. no-test (sym e ∙ d .no p)
 
-each : (cs : List Case) → map told cs ≡ map (λ (c : Case). c .plain) cs → map forward cs ≡ map (λ (c : Case). true) cs → Each Holds cs
+each : (cs : List Case) → map told cs ≡ map (λ (c : Case). c .plain) cs → map forward cs ≡ map (λ (c : Case). true) cs → Each CaseHolds cs
 each [] e f = tt
 each (c ∷ cs) e f =
     let h : told c ≡ c .plain = cc in
@@ -23,5 +23,5 @@ each (c ∷ cs) e f =
       each cs t u,
     )
 
-pub holds : Each Holds table
+pub holds : Each CaseHolds table
 holds = each table answers forwards

@@ -152,5 +152,5 @@ Each P [] = Unit {0}
 Each P (c ∷ cs) = P c × Each P cs
 
 -- the window is plain or not, as the table says
-abbrev pub Holds : Case → Type 0
-Holds c = Says (c .plain) (Plain (bytesOf c) (startOf c) (endOf c))
+abbrev pub CaseHolds : Case → Type 0
+CaseHolds c = Says (c .plain) (Plain (bytesOf c) (startOf c) (endOf c))

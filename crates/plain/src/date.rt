@@ -5,11 +5,11 @@ ghost use Rattle.zone.specs.Zone.{zoneOf};
 ghost use Rattle.zone.specs.Answers.{Valid};
 ghost use Rattle.records.specs.Records.{ruleAt};
 ghost use Rattle.venue.specs.Reading.{ListedRule, ListedRules};
-ghost use Rattle.day.specs.Governing.{governing as Governing·governing};
+ghost use Rattle.day.specs.Governing.{governingRule};
 ghost use Rattle.plain.specs.Deciding.{rises as Deciding·rises, inOrder, plainDate, takenAt};
 use calendar::Day;
 use day::Governed;
-use day::governing;
+use day::governing_rule;
 use day::midnight_after;
 use venue::point_time;
 use venue::rule_points;
@@ -21,7 +21,7 @@ use zone::to_utc_at;
 // Whether the points of the rule at a place convert in non-falling order between two instants.
 fn rises(
     book: &[u8],
-    first: u32,
+    offset0: u32,
     ats: &[u64],
     offsets: &[u32],
     rule: u32,
@@ -29,8 +29,8 @@ fn rises(
     from: Instant,
     to: Instant,
 ) -> bool
-    requires { ⌜ Valid first (now ats) (now offsets) × ListedRule (now book) rule ⌝ }
-    ensures { λ r. ⌜ r ≡ Deciding·rises (takenAt (zoneOf first (now (ats .entry)) (now (offsets .entry))) (d .0)) (from .0) (to .0)
+    requires { ⌜ Valid offset0 (now ats) (now offsets) × ListedRule (now book) rule ⌝ }
+    ensures { λ r. ⌜ r ≡ Deciding·rises (takenAt (zoneOf offset0 (now (ats .entry)) (now (offsets .entry))) (d .0)) (from .0) (to .0)
         (ruleAt (now (book .entry)) rule .points) ⌝ }
 {
     let place = rule as usize;
@@ -39,7 +39,7 @@ fn rises(
     let mut i: usize = 0;
     while i < n {
         let own = to_utc_at(
-            first,
+            offset0,
             ats,
             offsets,
             d,
@@ -59,7 +59,7 @@ fn rises(
 // Whether those of the rule that governs a date do, if there is one.
 fn in_order(
     book: &[u8],
-    first: u32,
+    offset0: u32,
     ats: &[u64],
     offsets: &[u32],
     rules: &[u32],
@@ -67,33 +67,33 @@ fn in_order(
     from: Instant,
     to: Instant,
 ) -> bool
-    requires { ⌜ Valid first (now ats) (now offsets) × ListedRules (now book) (now rules) ⌝ }
-    ensures { λ r. ⌜ r ≡ inOrder (takenAt (zoneOf first (now (ats .entry)) (now (offsets .entry))) (d .0)) (from .0) (to .0)
-        (Governing·governing (map (ruleAt (now (book .entry))) (now (rules .entry))) (d .0)) ⌝ }
+    requires { ⌜ Valid offset0 (now ats) (now offsets) × ListedRules (now book) (now rules) ⌝ }
+    ensures { λ r. ⌜ r ≡ inOrder (takenAt (zoneOf offset0 (now (ats .entry)) (now (offsets .entry))) (d .0)) (from .0) (to .0)
+        (governingRule (map (ruleAt (now (book .entry))) (now (rules .entry))) (d .0)) ⌝ }
 {
-    match governing(book, rules, d) {
+    match governing_rule(book, rules, d) {
         Governed::Nothing => true,
-        Governed::By(rule) => rises(book, first, ats, offsets, rule, d, from, to),
+        Governed::By(rule) => rises(book, offset0, ats, offsets, rule, d, from, to),
     }
 }
 
 pub(crate) fn is_plain_date(
     book: &[u8],
-    first: u32,
+    offset0: u32,
     ats: &[u64],
     offsets: &[u32],
     rules: &[u32],
     d: Day,
 ) -> bool
-    requires { ⌜ Valid first (now ats) (now offsets) × ListedRules (now book) (now rules) ⌝ }
-    ensures { λ r. ⌜ r ≡ plainDate (zoneOf first (now (ats .entry)) (now (offsets .entry)))
-        (Governing·governing (map (ruleAt (now (book .entry))) (now (rules .entry)))) (d .0) ⌝ }
+    requires { ⌜ Valid offset0 (now ats) (now offsets) × ListedRules (now book) (now rules) ⌝ }
+    ensures { λ r. ⌜ r ≡ plainDate (zoneOf offset0 (now (ats .entry)) (now (offsets .entry)))
+        (governingRule (map (ruleAt (now (book .entry))) (now (rules .entry)))) (d .0) ⌝ }
 {
-    let opening = to_utc_at(first, ats, offsets, d, 0, Uncertainty::Exact);
-    let closing = midnight_after(first, ats, offsets, d, Uncertainty::Exact);
+    let opening = to_utc_at(offset0, ats, offsets, d, 0, Uncertainty::Exact);
+    let closing = midnight_after(offset0, ats, offsets, d, Uncertainty::Exact);
     let from = opening.at;
     let to = closing.at;
     (from.0 <= to.0)
-        & in_order(book, first, ats, offsets, rules, d, from, to)
-        & reads_throughout(first, ats, offsets, d, from, to)
+        & in_order(book, offset0, ats, offsets, rules, d, from, to)
+        & reads_throughout(offset0, ats, offsets, d, from, to)
 }

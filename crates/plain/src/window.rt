@@ -6,7 +6,7 @@ ghost use Rattle.zone.specs.Zone.{zoneOf};
 ghost use Rattle.zone.specs.Answers.{Valid};
 ghost use Rattle.records.specs.Records.{ruleAt};
 ghost use Rattle.venue.specs.Reading.{ListedRules};
-ghost use Rattle.day.specs.Governing.{governing};
+ghost use Rattle.day.specs.Governing.{governingRule};
 ghost use Rattle.day.specs.Days.{venueBy};
 ghost use Rattle.plain.specs.Plain.{PlainWindow};
 ghost use Rattle.plain.specs.Deciding.{Decides, mostDates, reaches as Deciding·reaches};
@@ -26,16 +26,16 @@ const MOST_DATES: u32 = 3_662;
 // whatever their rules.
 fn plain_until(
     book: &[u8],
-    first: u32,
+    offset0: u32,
     ats: &[u64],
     offsets: &[u32],
     rules: &[u32],
     d: Day,
     last: Day,
 ) -> Day
-    requires { ⌜ Valid first (now ats) (now offsets) × ListedRules (now book) (now rules) × (d .0 < last .0) ⌝ }
-    ensures { λ r. ⌜ PlainUntil (venueBy (zoneOf first (now (ats .entry)) (now (offsets .entry)))
-        (governing (map (ruleAt (now (book .entry))) (now (rules .entry))))) (d .0) (last .0) (r .0) ⌝ }
+    requires { ⌜ Valid offset0 (now ats) (now offsets) × ListedRules (now book) (now rules) × (d .0 < last .0) ⌝ }
+    ensures { λ r. ⌜ PlainUntil (venueBy (zoneOf offset0 (now (ats .entry)) (now (offsets .entry)))
+        (governingRule (map (ruleAt (now (book .entry))) (now (rules .entry))))) (d .0) (last .0) (r .0) ⌝ }
 {
     let until = steady_until(ats, d);
     if last.0 < until.0 {
@@ -44,7 +44,7 @@ fn plain_until(
     if d.0 < until.0 {
         return until;
     }
-    if is_plain_date(book, first, ats, offsets, rules, d) {
+    if is_plain_date(book, offset0, ats, offsets, rules, d) {
         return Day(d.0 + 1);
     }
     d
@@ -54,25 +54,32 @@ fn plain_until(
 // of the dates that one look tells of only the last one's is asked.
 fn reaches(
     book: &[u8],
-    first: u32,
+    offset0: u32,
     ats: &[u64],
     offsets: &[u32],
     rules: &[u32],
     d: Day,
     end: Instant,
 ) -> bool
-    requires { ⌜ Valid first (now ats) (now offsets) × ListedRules (now book) (now rules) × (d .0 < 2 ^ 17) ⌝ }
-    ensures { λ r. ⌜ r ≡ Deciding·reaches (zoneOf first (now (ats .entry)) (now (offsets .entry)))
-        (governing (map (ruleAt (now (book .entry))) (now (rules .entry)))) (end .0) (suc mostDates) (d .0) ⌝ }
+    requires { ⌜ Valid offset0 (now ats) (now offsets) × ListedRules (now book) (now rules) × (d .0 < 2 ^ 17) ⌝ }
+    ensures { λ r. ⌜ r ≡ Deciding·reaches (zoneOf offset0 (now (ats .entry)) (now (offsets .entry)))
+        (governingRule (map (ruleAt (now (book .entry))) (now (rules .entry)))) (end .0) (suc mostDates) (d .0) ⌝ }
 {
     let last = Day(d.0 + MOST_DATES);
     let mut date = d;
     while date.0 < last.0 {
-        let next = plain_until(book, first, ats, offsets, rules, date, last);
+        let next = plain_until(book, offset0, ats, offsets, rules, date, last);
         if next.0 <= date.0 {
             return false;
         }
-        let opening = to_utc_at(first, ats, offsets, Day(next.0 - 1), 0, Uncertainty::Exact);
+        let opening = to_utc_at(
+            offset0,
+            ats,
+            offsets,
+            Day(next.0 - 1),
+            0,
+            Uncertainty::Exact,
+        );
         let at = opening.at;
         if end.0 <= at.0 {
             return true;
@@ -85,26 +92,26 @@ fn reaches(
 // If the window is plain, the date that its start reads is of the run, and so are those from there to its end; the one before it is plain.
 pub fn is_plain(
     book: &[u8],
-    first: u32,
+    offset0: u32,
     ats: &[u64],
     offsets: &[u32],
     rules: &[u32],
     start: Instant,
     end: Instant,
 ) -> bool
-    requires { ⌜ Valid first (now ats) (now offsets) × ListedRules (now book) (now rules) × (start .0 < end .0) ⌝ }
-    ensures { λ r. ⌜ Decides r (PlainWindow (venueBy (zoneOf first (now (ats .entry)) (now (offsets .entry)))
-        (governing (map (ruleAt (now (book .entry))) (now (rules .entry))))) (record { start = start .0; end = end .0 })) ⌝ }
+    requires { ⌜ Valid offset0 (now ats) (now offsets) × ListedRules (now book) (now rules) × (start .0 < end .0) ⌝ }
+    ensures { λ r. ⌜ Decides r (PlainWindow (venueBy (zoneOf offset0 (now (ats .entry)) (now (offsets .entry)))
+        (governingRule (map (ruleAt (now (book .entry))) (now (rules .entry))))) (record { start = start .0; end = end .0 })) ⌝ }
 {
-    let date = day_at(first, ats, offsets, start);
+    let date = day_at(offset0, ats, offsets, start);
     let day = date.0;
     if day == 0 {
         return false;
     }
-    let opening = to_utc_at(first, ats, offsets, date, 0, Uncertainty::Exact);
+    let opening = to_utc_at(offset0, ats, offsets, date, 0, Uncertainty::Exact);
     let from = opening.at;
     if start.0 < from.0 {
         return false;
     }
-    reaches(book, first, ats, offsets, rules, Day(day - 1), end)
+    reaches(book, offset0, ats, offsets, rules, Day(day - 1), end)
 }

@@ -9,7 +9,7 @@ use Rattle.records.specs.Book.{refusal, records, orThen}
 use Rattle.venue.specs.Opening.{coverageOf}
 use Rattle.day.specs.Days.{Values, Held, valuesOf, pointOf}
 use Rattle.answer.specs.Forms.{Cover, Form, point, encodeAll}
-use Rattle.tell.specs.Shown.{shown, shownForms}
+use Rattle.span_records.specs.Shown.{shown, shownForms}
 use Rattle.zone.specs.Units.{instantOf}
 use Rattle.query.specs.Judging.{instantRefusal}
 

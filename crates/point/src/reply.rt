@@ -12,7 +12,7 @@ ghost use Rattle.answer.specs.Forms.{point as Forms·point, encode, encodeAll};
 ghost use Rattle.answer.specs.Meaning.{missingOf};
 ghost use Rattle.answer.specs.declared.Covered.the-variants.{Between};
 ghost use Rattle.lend.specs.Lending.{Lent};
-ghost use Rattle.tell.specs.Shown.{shown, shownForms};
+ghost use Rattle.span_records.specs.Shown.{shown, shownForms};
 ghost use Rattle.records.specs.Limits.{base};
 ghost use Rattle.point.specs.Asking.{pointNumber, pointAnswer};
 ghost use Rattle.point.specs.Private.{told};
@@ -22,9 +22,9 @@ use answer::MISSING_SIZE;
 use answer::PHASE_SIZE;
 use answer::put_missing;
 use answer::put_phase;
-use day::Segment;
+use day::DaySegment;
 use day::Spanned;
-use day::point;
+use day::resolve_phase;
 use events::count_events;
 use lend::NO_ROOM;
 use lend::Reply;
@@ -36,8 +36,8 @@ use query::asked_at;
 use records::MOST_EVENTS;
 use records::MOST_RULES;
 use records::MOST_TRANSITIONS;
-use tell::phase_of;
-use tell::put_events;
+use span_records::phase_of;
+use span_records::put_events;
 use venue::Header;
 use venue::Opened;
 use venue::open;
@@ -56,18 +56,18 @@ fn tell_missing(out: &mut [u8], t: Instant, c: Covered) -> Reply
 
 fn tell_known(
     book: &[u8],
-    first: u32,
+    offset0: u32,
     ats: &[u64],
     offsets: &[u32],
     events: &[u32],
-    g: Segment,
+    g: DaySegment,
     out: &mut [u8],
 ) -> Reply
-    requires { ⌜ Valid first (now ats) (now offsets) × ListedEvents (now book) (now events) × (length (now events) ≤ base .events)
+    requires { ⌜ Valid offset0 (now ats) (now offsets) × ListedEvents (now book) (now events) × (length (now events) ≤ base .events)
         × ListedRule (now book) (g .rule) ⌝ }
     ensures { λ r. ⌜ Lent 0
         (encodeAll (shownForms (g .start .at .0) (g .end .at .0)
-        (shown (zoneOf first (now (ats .entry)) (now (offsets .entry))) (map (eventAt (now (book .entry))) (now (events .entry)))
+        (shown (zoneOf offset0 (now (ats .entry)) (now (offsets .entry))) (map (eventAt (now (book .entry))) (now (events .entry)))
         (heldBy (now (book .entry)) g))))
         (now (out .entry)) (now (out .exit)) r ⌝ }
 {
@@ -77,14 +77,14 @@ fn tell_known(
     let to = end.at;
     let before = start.uncertainty;
     let behind = end.uncertainty;
-    let count = count_events(book, first, ats, offsets, events, from, to);
+    let count = count_events(book, offset0, ats, offsets, events, from, to);
     let length = PHASE_SIZE + EVENT_SIZE * count;
     if out.len() < length {
         return refused(NO_ROOM);
     }
     let whole = widest(before, behind);
     let at = put_phase(out, 0, phase_of(book, g, whole, from, to, count as u32));
-    let trail = put_events(book, first, ats, offsets, events, from, to, out, at);
+    let trail = put_events(book, offset0, ats, offsets, events, from, to, out, at);
     answered(trail.behind)
 }
 
@@ -99,7 +99,7 @@ fn tell_venue(
     t: Instant,
     out: &mut [u8],
 ) -> Reply
-    requires { ⌜ Ready (now book) (h .first) (now ats) (now offsets) (now rules) (now events) ⌝ }
+    requires { ⌜ Ready (now book) (h .offset0) (now ats) (now offsets) (now rules) (now events) ⌝ }
     ensures { λ r. ⌜ Lent 0
         (encodeAll (told
         (valuesAt (now (book .entry)) h (now (ats .entry)) (now (offsets .entry)) (now (rules .entry)) (now (events .entry)))
@@ -108,10 +108,10 @@ fn tell_venue(
 {
     let start = h.start;
     let end = h.end;
-    let first = h.first;
-    match point(book, start, end, first, ats, offsets, rules, t) {
+    let offset0 = h.offset0;
+    match resolve_phase(book, start, end, offset0, ats, offsets, rules, t) {
         Spanned::Missing => tell_missing(out, t, Covered::Between(start, end)),
-        Spanned::Whole(g) => tell_known(book, first, ats, offsets, events, g, out),
+        Spanned::Whole(g) => tell_known(book, offset0, ats, offsets, events, g, out),
     }
 }
 

@@ -44,11 +44,11 @@ inside-between r a b z h i k l =
 
 -- ---- integers that their instants give back
 
-abbrev pub Kept : ℤ → Type 0
-Kept n = instantNumber (instantOf n) ≡ n
+abbrev pub GivenBack : ℤ → Type 0
+GivenBack n = instantNumber (instantOf n) ≡ n
 
-module _ (m n : ℤ) (a : Kept m) (b : Kept n) where
-  placed-is : (z : ℤ) → Kept z → z ≡ meant w64 (instantOf z + instantZero)
+module _ (m n : ℤ) (a : GivenBack m) (b : GivenBack n) where
+  placed-is : (z : ℤ) → GivenBack z → z ≡ meant w64 (instantOf z + instantZero)
   placed-is z k = sym k ∙ instant-placed (instantOf z)
 
   le-is : leZ m n ≡ leb (instantOf m + instantZero) (instantOf n + instantZero)

@@ -64,8 +64,8 @@ unfolding body
 encode-length r = ap length (encode-laid r) ∙ laid-length (allFields r) ∙ ap (λ (n : ℕ). 2 + n) (sym (laid-length (fieldsOf r)))
 
 -- at `at` s says the fields of r
-abbrev pub Stands : Record → List ℕ → ℕ → Type 0
-Stands r s at = Says (allFields r) s at 0
+abbrev pub RecordStands : Record → List ℕ → ℕ → Type 0
+RecordStands r s at = Says (allFields r) s at 0
 
 -- ---- a signed number
 
@@ -116,7 +116,7 @@ module _ (s : List ℕ) (b : Bytes s) (at : ℕ) where
   below i = field-below 2 s (at + i) b
 
   module _ (z : number size s at ≡ lengthOf (kindAt s at) (number (count (kindAt s at)) s at)) where
-    one-stands : kindAt s at ≡ coverageKind → Stands (coverage (coverageAt s at)) s at
+    one-stands : kindAt s at ≡ coverageKind → RecordStands (coverage (coverageAt s at)) s at
     one-stands k =
         let y : number size s at ≡ lengthOf coverageKind 0 = rw k at z in
         let start = long (coverageStart .from) in
@@ -124,14 +124,14 @@ module _ (s : List ℕ) (b : Bytes s) (at : ℕ) where
         let offset = short (coverageOffset .from) in
         (y ∙ sym (body-length (coverage (coverageAt s at))), (k, (start, (end, (offset, tt)))))
 
-    two-stands : kindAt s at ≡ transitionKind → Stands (transition (transitionAt s at)) s at
+    two-stands : kindAt s at ≡ transitionKind → RecordStands (transition (transitionAt s at)) s at
     two-stands k =
         let y : number size s at ≡ lengthOf transitionKind 0 = rw k at z in
         let instant = long (transitionInstant .from) in
         let offset = short (transitionOffset .from) in
         (y ∙ sym (body-length (transition (transitionAt s at))), (k, (instant, (offset, tt))))
 
-    three-stands : kindAt s at ≡ ruleKind → Stands (rule (ruleAt s at)) s at
+    three-stands : kindAt s at ≡ ruleKind → RecordStands (rule (ruleAt s at)) s at
     three-stands k =
         let n = number (count ruleKind) s at in
         let y : number size s at ≡ lengthOf ruleKind n = rw k at z in
@@ -142,7 +142,7 @@ module _ (s : List ℕ) (b : Bytes s) (at : ℕ) where
         let width = long (nanoseconds ruleKind .from) in
         (y ∙ sym x, (k, (first, (last, (refl, (refl, (refl, (refl, (refl, (refl, (width, (refl, (sym m, points-say s at n)))))))))))))
 
-    four-stands : kindAt s at ≡ eventKind → Stands (event (eventAt s at)) s at
+    four-stands : kindAt s at ≡ eventKind → RecordStands (event (eventAt s at)) s at
     four-stands k =
         let n = number (count eventKind) s at in
         let y : number size s at ≡ lengthOf eventKind n = rw k at z in
@@ -160,17 +160,17 @@ module _ (s : List ℕ) (b : Bytes s) (at : ℕ) where
   fits-four : Fits (event (eventAt s at))
   fits-four = record { code = below (eventCode .from); evidence = below (eventEvidence .from); text = below (text eventKind .from) }
 
-  pub framed-stands : Framed s at → Stands (recordAt s at) s at × Fits (recordAt s at)
+  pub framed-stands : Framed s at → RecordStands (recordAt s at) s at × Fits (recordAt s at)
   framed-stands f = go (kind-of s at (kindAt s at) f refl)
     where
-      go : Kind (kindAt s at) → Stands (recordAt s at) s at × Fits (recordAt s at)
+      go : Kind (kindAt s at) → RecordStands (recordAt s at) s at × Fits (recordAt s at)
       go (one i) = rw (is-one s at (kindAt s at) f refl i) (one-stands (f .sized) i, tt)
       go (two i) = rw (is-two s at (kindAt s at) f refl i) (two-stands (f .sized) i, tt)
       go (three i) = rw (is-three s at (kindAt s at) f refl i) (three-stands (f .sized) i, fits-three)
       go (four i) = rw (is-four s at (kindAt s at) f refl i) (four-stands (f .sized) i, fits-four)
 
   -- the bytes from there on are its encoding and those behind it
-  pub splits : (r : Record) → Stands r s at → nextAt s at ≤ length s → drop at s ≡ encode r ++ drop (nextAt s at) s
+  pub splits : (r : Record) → RecordStands r s at → nextAt s at ≤ length s → drop at s ≡ encode r ++ drop (nextAt s at) s
   unfolding body
   splits r p h =
       let n = span (allFields r) in
@@ -181,10 +181,10 @@ module _ (s : List ℕ) (b : Bytes s) (at : ℕ) where
 -- ---- what stands at a place is what is read there
 
 -- the encoding of a record says its fields, where each fits its width
-pub encoded : (r : Record) → Narrow (allFields r) → (s a b : List ℕ) (at : ℕ) → s ≡ a ++ (encode r ++ b) → at ≡ length a → Stands r s at
+pub encoded : (r : Record) → Narrow (allFields r) → (s a b : List ℕ) (at : ℕ) → s ≡ a ++ (encode r ++ b) → at ≡ length a → RecordStands r s at
 encoded r n s a b at e i = rw (e, encode-laid r) (laid-says (allFields r) n a b at 0 (omega arith))
 
-pub behind : (r : Record) (s : List ℕ) (at : ℕ) → Stands r s at → nextAt s at ≡ at + length (encode r)
+pub behind : (r : Record) (s : List ℕ) (at : ℕ) → RecordStands r s at → nextAt s at ≡ at + length (encode r)
 behind r s at p = omega (arith, p .0, encode-length r)
 
 frame-good : (s : List ℕ) (at : ℕ) → Framed s at → badFrame s at ≡ false
@@ -198,7 +198,7 @@ frame-good s at f =
       eq-eqb _ _ (f .sized),
     )
 
-stands-framed : (r : Record) (s : List ℕ) (at : ℕ) → Stands r s at → nextAt s at ≤ length s → Framed s at
+stands-framed : (r : Record) (s : List ℕ) (at : ℕ) → RecordStands r s at → nextAt s at ≤ length s → Framed s at
 stands-framed (coverage c) s at (z, (k, p)) h =
     let y : number size s at ≡ lengthOf coverageKind 0 = z ∙ body-length (coverage c) in
     record { kind-low = omega arith; kind-high = omega arith; head = omega arith; whole = h; sized = rw k y }
@@ -212,7 +212,7 @@ stands-framed (event e) s at (z, (k, (_, (_, (_, (_, (_, (_, (_, (n, p))))))))))
     let y : number size s at ≡ lengthOf eventKind (number (count eventKind) s at) = z ∙ body-length (event e) ∙ ap (lengthOf eventKind) (sym n) in
     record { kind-low = omega arith; kind-high = omega arith; head = omega arith; whole = h; sized = rw k y }
 
-pub good-frame : (r : Record) (s : List ℕ) (at : ℕ) → Stands r s at → nextAt s at ≤ length s → badFrame s at ≡ false
+pub good-frame : (r : Record) (s : List ℕ) (at : ℕ) → RecordStands r s at → nextAt s at ≤ length s → badFrame s at ≡ false
 good-frame r s at p h = frame-good s at (stands-framed r s at p h)
 
 points-read : (ps : List Point) (s : List ℕ) (at : ℕ) → Says (pointFields ps) s at (time ruleKind .from) → pointsAt s at (length ps) ≡ ps
@@ -240,7 +240,7 @@ Integers (transition t) = SFits w64 (t .at) × SFits w32 (t .offset)
 Integers (rule r) = SFits w32 (r .first) × SFits w32 (r .last) × SFits w64 (r .uncertainty .nanoseconds)
 Integers (event e) = SFits w32 (e .first) × SFits w32 (e .last) × SFits w64 (e .uncertainty .nanoseconds)
 
-pub read : (r : Record) → Integers r → (s : List ℕ) (at : ℕ) → Stands r s at → recordAt s at ≡ r
+pub read : (r : Record) → Integers r → (s : List ℕ) (at : ℕ) → RecordStands r s at → recordAt s at ≡ r
 read (coverage c) (f, g, h) s at (_, (k, (a, (b, (d, _))))) =
     let start = signed-back w64 (number coverageStart s at) (c .start) f a in
     let end = signed-back w64 (number coverageEnd s at) (c .end) g b in

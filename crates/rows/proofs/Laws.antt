@@ -13,7 +13,7 @@ use Rattle.answer.specs.Forms.{eventSize}
 use Rattle.rows.specs.Rows.{Row, fromAt, toAt, behindPhase, behindGap, behindMark, enough, left, eventsFrom, segments, segmentsAt, rowsFrom, rows}
 use Rattle.rows.specs.Rows.{goodPhase, goodEvent, goodSegment, goodMark, goodEvents, goodFrom, goodAt, goodRow, goodRows}
 use Rattle.rows.specs.Telling.{segmentOf, spanOf, endOf, goodOn, markAt, rowsAt}
-use Rattle.rows.specs.declared.Segment.{Segment}
+use Rattle.rows.specs.declared.RowSegment.{RowSegment}
 use Rattle.rows.proofs.Turns.{untrue, phase-holds, gap-holds, mark-holds, event-holds, events-room, mark-on, within, Goes, ends, phases, gaps, anew, none, goes, at-end}
 use Rattle.rows.proofs.Places.{holds, segment-room, no-mark, no-segment, good-look, good-left, rowAt, rows-mark}
 use Rattle.rows.proofs.Places.{segments-end, mark-end, segments-phase, segments-gap, segments-mark, mark-phase, mark-gap, mark-mark}
@@ -70,7 +70,7 @@ segmented s at o n =
     go (gaps p l f) = by (either (goodPhase s at) p) l
     go (anew e p f) = absurd (untrue e)
 
-module _ {s : List ℕ} {at : ℕ} (t : Segmented s at) {g : Segment} (e : g ≡ segmentOf s at) where
+module _ {s : List ℕ} {at : ℕ} (t : Segmented s at) {g : RowSegment} (e : g ≡ segmentOf s at) where
   pub end-inside : endOf g ≤ length s
   end-inside = rw e (t .inside)
 

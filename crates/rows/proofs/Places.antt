@@ -14,7 +14,7 @@ use Rattle.answer.specs.Forms.{phaseKind, gapKind, markKind, phaseSize, gapSize
 use Rattle.rows.specs.Rows.{Seen, Row, fromAt, toAt, countAt, behindPhase, behindGap, behindMark, enough, left, phaseSeen, gapSeen}
 use Rattle.rows.specs.Rows.{goodPhase, goodGap, goodSegment, goodMark, goodEvents, goodFrom, goodAt, eventsFrom, segmentsFrom, segmentsAt, markFrom, rowsFrom}
 use Rattle.rows.specs.Telling.{phaseSegment, gapSegment, segmentOf, spanOf, endOf, goodOn, markAt, rowsAt}
-use Rattle.rows.specs.declared.Segment.{Segment}
+use Rattle.rows.specs.declared.RowSegment.{RowSegment}
 use Rattle.rows.proofs.Turns.{phase-holds, gap-holds, mark-holds, within, phase-on, gap-on}
 
 module _ (s : List ℕ) where
@@ -172,7 +172,7 @@ module _ (s : List ℕ) where
 -- ---- a segment, and what follows it
 
 module _ (s : List ℕ) (at : ℕ) where
-  pub record Holds (g : Segment) : Type 0 where
+  pub record SegmentHolds (g : RowSegment) : Type 0 where
     pub after : at < g .behind
     pub inside : g .behind ≤ length s
     pub starts : g .from .0 ≡ fromAt s at
@@ -181,7 +181,7 @@ module _ (s : List ℕ) (at : ℕ) where
     pub next : markAt s at ≡ markAt s (endOf g)
     pub good : (marks : Bool) (least : ℕ) → least ≤ fromAt s at → goodAt marks s at least ≡ goodOn marks s (g .behind) (g .to .0) (g .events)
 
-  holds-phase : goodPhase s at ≡ true → Holds (phaseSegment s at)
+  holds-phase : goodPhase s at ≡ true → SegmentHolds (phaseSegment s at)
   holds-phase p =
       let f = phase-holds s at p in
       let h : at < length s = omega (arith, f .whole) in
@@ -197,7 +197,7 @@ module _ (s : List ℕ) (at : ℕ) where
             ∙ ap (λ (b : Bool). goodEvents s (at + phaseSize) (countAt s at) && b) (good-left s marks at least (behindPhase s at) (toAt s at) (omega arith));
       }
 
-  holds-gap : goodPhase s at ≡ false → goodGap s at ≡ true → Holds (gapSegment s at)
+  holds-gap : goodPhase s at ≡ false → goodGap s at ≡ true → SegmentHolds (gapSegment s at)
   unfolding eventsFrom goodEvents
   holds-gap p g =
       let f = gap-holds s at g in
@@ -249,9 +249,9 @@ module _ (s : List ℕ) (at : ℕ) where
       go true i e = phase-holds s at i .whole
       go false i e = absurd (omega (arith, k, gap-holds s at e .kind))
 
-  pub holds : goodSegment s at ≡ true → Holds (segmentOf s at)
+  pub holds : goodSegment s at ≡ true → SegmentHolds (segmentOf s at)
   holds e = go (goodPhase s at) refl e
     where
-      go : (b : Bool) → goodPhase s at ≡ b → (b || goodGap s at) ≡ true → Holds (segmentOf s at)
+      go : (b : Bool) → goodPhase s at ≡ b → (b || goodGap s at) ≡ true → SegmentHolds (segmentOf s at)
       go true i e = rw (eq-eqb (number kind s at) phaseKind (phase-holds s at i .kind)) (holds-phase i)
       go false i e = rw (ne-eqb (number kind s at) phaseKind (λ z. omega (arith, gap-holds s at e .kind))) (holds-gap i e)

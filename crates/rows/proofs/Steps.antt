@@ -12,7 +12,7 @@ use Rattle.records.proofs.Tests.{or-false}
 use Rattle.answer.specs.Forms.{eventSize, markSize}
 use Rattle.rows.specs.Rows.{fromAt, enough, goodPhase, goodGap, goodSegment, goodEvent, goodMark, goodEvents, goodFrom, goodAt}
 use Rattle.rows.specs.Telling.{segmentOf, goodOn, standsAt}
-use Rattle.rows.specs.declared.Segment.{Segment}
+use Rattle.rows.specs.declared.RowSegment.{RowSegment}
 use Rattle.rows.specs.declared.Stands.{Stands}
 use Rattle.rows.specs.declared.Stands.the-variants as Stands
 use Rattle.rows.proofs.Turns.{mark-holds, event-holds, at-end, phase-early, gap-early, other, mark-on}
@@ -145,10 +145,10 @@ pub record Going (marks : Bool) (s : List ℕ) (all : Bool) (at least n : ℕ) :
   pub inside : at ≤ length s
 
 module _ {marks : Bool} {s : List ℕ} {all : Bool} {at least n : ℕ} (o : Going marks s all at least n) where
-  pub segment-going : Sees marks s at least n → {g : Segment} → g ≡ segmentOf s at → Going marks s all (g .behind) (g .to .0) (g .events)
+  pub segment-going : Sees marks s at least n → {g : RowSegment} → g ≡ segmentOf s at → Going marks s all (g .behind) (g .to .0) (g .events)
   segment-going t e = rw e (record { same = o .same ∙ t .on; inside = holds s at (t .segment) .inside })
 
-  pub segment-after : Sees marks s at least n → {g : Segment} → g ≡ segmentOf s at → length s - g .behind < length s - at
+  pub segment-after : Sees marks s at least n → {g : RowSegment} → g ≡ segmentOf s at → length s - g .behind < length s - at
   segment-after t e = let h = holds s at (t .segment) in rw e (omega (arith, h .after, h .inside))
 
   pub event-going : Happens marks s at least n → Going marks s all (at + eventSize) least (n - 1)

@@ -12,13 +12,13 @@ use Rattle.rows.specs.Rows.{Seen, Row, fromAt, toAt, countAt, behindGap,
 use Rattle.rows.specs.Rows.{left, eventsFrom, markFrom, rowsFrom}
 use Rattle.rows.specs.declared.Shows.{Shows}
 use Rattle.rows.specs.declared.Shows.the-variants.{Phase, Unknown}
-use Rattle.rows.specs.declared.Segment.{Segment}
+use Rattle.rows.specs.declared.RowSegment.{RowSegment}
 use Rattle.rows.specs.declared.Stands.{Stands}
 use Rattle.rows.specs.declared.Stands.the-variants as Stands
 
 -- ---- a segment
 
-abbrev pub phaseSegment : List ℕ → ℕ → Segment
+abbrev pub phaseSegment : List ℕ → ℕ → RowSegment
 phaseSegment s at =
     record {
       from = record { 0 = fromAt s at };
@@ -28,12 +28,12 @@ phaseSegment s at =
       behind = at + phaseSize;
     }
 
-abbrev pub gapSegment : List ℕ → ℕ → Segment
+abbrev pub gapSegment : List ℕ → ℕ → RowSegment
 gapSegment s at =
     record { from = record { 0 = fromAt s at }; to = record { 0 = toAt s at }; shows = Unknown; events = 0; behind = behindGap at }
 
 -- the one that stands at `at`
-abbrev pub segmentOf : List ℕ → ℕ → Segment
+abbrev pub segmentOf : List ℕ → ℕ → RowSegment
 segmentOf s at = cond (eqb (number kind s at) phaseKind) (phaseSegment s at) (gapSegment s at)
 
 abbrev pub markOf : Shows → Mark
@@ -41,12 +41,12 @@ markOf (Phase p e) = phase p e
 markOf Unknown = unknown
 
 -- as a span, with the events behind it
-abbrev pub spanOf : List ℕ → Segment → Span Seen
+abbrev pub spanOf : List ℕ → RowSegment → Span Seen
 spanOf s g =
     record { from = g .from .0; to = g .to .0; body = record { mark = markOf (g .shows); events = eventsFrom s (g .behind) (g .events) } }
 
 -- the place behind them
-abbrev pub endOf : Segment → ℕ
+abbrev pub endOf : RowSegment → ℕ
 endOf g = g .behind + eventSize * g .events
 
 -- ---- a reading: at a place, where the next segment may not start before `least`, and n events of the last phase are still to come

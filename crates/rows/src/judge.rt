@@ -6,7 +6,7 @@ ghost use lib.ListN.{length};
 ghost use Rattle.rows.specs.Rows.{framed as Rows·framed, goodPhase, goodGap, goodEvent, goodRow};
 ghost use Rattle.rows.specs.Telling.{standsAt};
 use crate::Stands;
-use crate::reading::segment_at;
+use crate::reading::read_segment;
 use answer::*;
 use records::KIND;
 use records::LAST_CODE;
@@ -117,7 +117,7 @@ pub fn good_row(row: &[u8]) -> bool
                 return false;
             }
             Stands::Segment => {
-                let g = segment_at(row, at);
+                let g = read_segment(row, at);
                 let to = g.to;
                 at = g.behind;
                 least = to.0;

@@ -6,8 +6,8 @@ mod reading;
 pub use judge::good_row;
 pub use judge::stands_at;
 pub use reading::end_of;
-pub use reading::event_at;
-pub use reading::segment_at;
+pub use reading::read_event;
+pub use reading::read_segment;
 use wire::Placed;
 
 // Document 01's number of bytes that are no good row.
@@ -29,7 +29,7 @@ pub enum Shows {
 }
 
 // A segment, how many events follow it, and the place behind it, where the first of them stands.
-pub struct Segment {
+pub struct RowSegment {
     pub from: Placed,
     pub to: Placed,
     pub shows: Shows,

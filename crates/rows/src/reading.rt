@@ -7,7 +7,7 @@ ghost use Rattle.answer.specs.Forms.{eventSize};
 ghost use Rattle.rows.specs.Rows.{goodSegment, eventOf};
 ghost use Rattle.rows.specs.Telling.{segmentOf, endOf};
 use crate::Event;
-use crate::Segment;
+use crate::RowSegment;
 use crate::Shows;
 use answer::*;
 use records::KIND;
@@ -17,7 +17,7 @@ use wire::get4;
 use wire::signed8;
 
 // The segment that stands at a place.
-pub fn segment_at(bytes: &[u8], at: usize) -> Segment
+pub fn read_segment(bytes: &[u8], at: usize) -> RowSegment
     requires { ⌜ goodSegment (now bytes) at ≡ true ⌝ }
     ensures { λ r. ⌜ r ≡ segmentOf (now (bytes .entry)) at ⌝ }
 {
@@ -26,7 +26,7 @@ pub fn segment_at(bytes: &[u8], at: usize) -> Segment
     if get2(bytes, at + KIND) == PHASE_KIND {
         let phase = get1(bytes, at + PHASE);
         let evidence = get2(bytes, at + EVIDENCE);
-        return Segment {
+        return RowSegment {
             from,
             to,
             shows: Shows::Phase(phase, evidence),
@@ -34,7 +34,7 @@ pub fn segment_at(bytes: &[u8], at: usize) -> Segment
             behind: at + PHASE_SIZE,
         };
     }
-    Segment {
+    RowSegment {
         from,
         to,
         shows: Shows::Unknown,
@@ -44,7 +44,7 @@ pub fn segment_at(bytes: &[u8], at: usize) -> Segment
 }
 
 // The place behind a segment's events.
-pub fn end_of(g: Segment) -> usize
+pub fn end_of(g: RowSegment) -> usize
     requires { ⌜ endOf g < 2 ^ 64 ⌝ }
     ensures { λ r. ⌜ r ≡ endOf g ⌝ }
 {
@@ -52,7 +52,7 @@ pub fn end_of(g: Segment) -> usize
 }
 
 // The event that stands at a place.
-pub fn event_at(bytes: &[u8], at: usize) -> Event
+pub fn read_event(bytes: &[u8], at: usize) -> Event
     requires { ⌜ Inside at eventSize (now bytes) ⌝ }
     ensures { λ r. ⌜ (r .at .0 ≡ eventOf (now (bytes .entry)) at .at) × (r .code ≡ eventOf (now (bytes .entry)) at .code) × (r .behind ≡ at + eventSize) ⌝ }
 {

@@ -8,7 +8,7 @@ use native.Mathlib.Omega.{arith}
 use Rattle.spans.specs.Spans.{look}
 use Rattle.spans.specs.Timeline.{Venue, Part, midnight, spans, inside, pointAt}
 use Rattle.spans.proofs.Lists.{before, after, on-left, on-right}
-use Rattle.spans.proofs.Walking.{Fits}
+use Rattle.spans.proofs.Walking.{DateFits}
 
 module _ {A : Type 0} (v : Venue A) (c : Part) {C : Type 0} (f : A → C) (t : ℕ) where
   pub point-out : inside c t ≡ false → pointAt f v c t ≡ none
@@ -16,7 +16,7 @@ module _ {A : Type 0} (v : Venue A) (c : Part) {C : Type 0} (f : A → C) (t : �
   point-out e = rw e
 
   -- in a date between two others, all three fit
-  pub point-in : inside c t ≡ true → (d : ℕ) → 0 < d → Fits v (d - 1) → Fits v d → Fits v (suc d) → midnight v d ≤ t → t < midnight v (suc d)
+  pub point-in : inside c t ≡ true → (d : ℕ) → 0 < d → DateFits v (d - 1) → DateFits v d → DateFits v (suc d) → midnight v d ≤ t → t < midnight v (suc d)
       → pointAt f v c t ≡ look f (spans v d) t
   unfolding pointAt
   point-in e d pos yesterday today tomorrow a b =

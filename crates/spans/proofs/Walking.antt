@@ -83,7 +83,7 @@ module _ {A : Type 0} (v : Venue A) where
       rw e
 
   -- what the walk needs of a date
-  pub record Fits (d : ℕ) : Type 0 where
+  pub record DateFits (d : ℕ) : Type 0 where
     pub rising : midnight v d ≤ midnight v (suc d)
     pub reading : (t : ℕ) → midnight v d ≤ t → t < midnight v (suc d) → v .reads t ≡ d
     pub within : Within (midnight v d) (midnight v (suc d)) (spans v d)
@@ -105,7 +105,7 @@ module _ {A : Type 0} (v : Venue A) where
 
   module _ {C : Type 0} (f : A → C) (hi t : ℕ) where
     -- one turn, in the date e
-    turn : (e n cursor : ℕ) → Fits e → midnight v e ≤ cursor → cursor < midnight v (suc e) → cursor ≤ t → t < hi
+    turn : (e n cursor : ℕ) → DateFits e → midnight v e ≤ cursor → cursor < midnight v (suc e) → cursor ≤ t → t < hi
         → (midnight v (suc e) ≤ t → look f (walk v hi n (min hi (midnight v (suc e)))) t ≡ look f (spans v (v .reads t)) t)
         → look f (walk v hi (suc n) cursor) t ≡ look f (spans v (v .reads t)) t
     unfolding walk
@@ -127,7 +127,7 @@ module _ {A : Type 0} (v : Venue A) where
             (clip-look f t cursor hi (spans v e) i j ∙ after f t (midnight v e) (midnight v (suc e)) (spans v e) (omega arith) (fits .within))
             ∙ on (omega arith)
 
-    pub walk-look : (k n e cursor : ℕ) → k ≤ n → ((d : ℕ) → e ≤ d → d < e + k → Fits d) → midnight v e ≤ cursor → hi ≤ midnight v (e + k)
+    pub walk-look : (k n e cursor : ℕ) → k ≤ n → ((d : ℕ) → e ≤ d → d < e + k → DateFits d) → midnight v e ≤ cursor → hi ≤ midnight v (e + k)
         → cursor ≤ t → t < hi
         → look f (walk v hi n cursor) t ≡ look f (spans v (v .reads t)) t
     walk-look zero n e cursor l fits a b i j = let z : e + 0 ≡ e = omega arith in absurd (omega (arith, ap (midnight v) z))

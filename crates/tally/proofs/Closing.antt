@@ -30,13 +30,13 @@ use Rattle.lend.specs.declared.Reply.{Reply}
 use Rattle.lend.proofs.Replies.{lent-refused, lent-short, lent-written, lent-same, lent-reply}
 use Rattle.timeline.specs.Segments.{segments, timelineOf}
 use Rattle.timeline.specs.Asking.{segmentsBy}
-use Rattle.pages.specs.Rows.{rowsOf, formsBy, mostNs}
+use Rattle.tally_rows.specs.Rows.{rowsOf, formsBy, mostTallyNs}
 use Rattle.zone.specs.Units.{instantOf}
 use Rattle.book_query.specs.Judging.{windowNumber, judgedBy}
 use Rattle.tally.specs.Tallying.{tallyAnswer, tooLong, tallyNumber}
-use Rattle.pages.specs.Pages.{marks, rawForms}
+use Rattle.tally_rows.specs.OpenRows.{marks, rawForms}
 use Rattle.tally.specs.Private.{rawBlank, rawOf}
-use Rattle.pages.proofs.Paging.{forms-long}
+use Rattle.tally_rows.proofs.Filling.{forms-long}
 use Rattle.tally.proofs.Raw.{raw-total, blank-total, same-forms}
 
 -- ---- a window that is too long, too little room, the answer
@@ -44,16 +44,16 @@ use Rattle.tally.proofs.Raw.{raw-total, blank-total, same-forms}
 abbrev written : List (Span Mark) → ℕ → ℕ → List ℕ
 written all start end = encodeAll (rawForms all start end)
 
-short-enough : (start end : ℕ) → end - start ≤ mostNs → tooLong start end ≡ 0
-short-enough start end h = simp (le-ltb mostNs (end - start) h)
+short-enough : (start end : ℕ) → end - start ≤ mostTallyNs → tooLong start end ≡ 0
+short-enough start end h = simp (le-ltb mostTallyNs (end - start) h)
 
 module _ (all : List (Span Mark)) (start end : ℕ) {room : List ℕ} {r : Reply} where
-  pub tally-long : mostNs < end - start → r ≡ record { number = 13; length = 0 } → Lent (tooLong start end) (written all start end) room room r
+  pub tally-long : mostTallyNs < end - start → r ≡ record { number = 13; length = 0 } → Lent (tooLong start end) (written all start end) room room r
   tally-long h q =
-      let e = lt-ltb mostNs (end - start) h in
+      let e = lt-ltb mostTallyNs (end - start) h in
       rw e (lent-reply (lent-refused (written all start end) room (λ z. omega arith)) q)
 
-  module _ (h : end - start ≤ mostNs) {n : ℕ} (e : n ≡ rowSize * (length (rowsOf start end) + 1)) where
+  module _ (h : end - start ≤ mostTallyNs) {n : ℕ} (e : n ≡ rowSize * (length (rowsOf start end) + 1)) where
     pub tally-short : length room < n → r ≡ record { number = 16; length = 0 } → Lent (tooLong start end) (written all start end) room room r
     tally-short l q = lent-reply (lent-short (written all start end) room (short-enough start end h) (omega (arith, e, forms-long all start end))) q
 

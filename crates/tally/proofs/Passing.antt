@@ -13,24 +13,24 @@ use Rattle.spans.specs.Spans.{Mark, phase, unknown, Span, Within}
 use Rattle.spans.specs.Timeline.{Venue, turns, walk}
 use Rattle.spans.proofs.Lists.{ordered}
 use Rattle.spans.proofs.Walking.{walk-within, walk-none}
-use Rattle.day.specs.Governing.{governing}
+use Rattle.day.specs.Governing.{governingRule}
 use Rattle.day.specs.Days.{Values, Held, venueBy, venueOf}
 use Rattle.day.specs.Meaning.{valuesAt}
 use Rattle.venue.specs.declared.opened.Header.{Header}
-use Rattle.walk.specs.Walking.{ruleOf, pointOf, behind, Begun, Comes}
-use Rattle.walk.specs.Looking.{Leads, LeadsOn}
+use Rattle.walk.specs.Walking.{ruleOf, pointOf, afterPiece, Begun, Comes}
+use Rattle.walk.specs.Looking.{IsNextTurn, TurnsOn}
 use Rattle.walk.specs.declared.Walk.{Walk}
 use Rattle.walk.specs.declared.Piece.{Piece}
-use Rattle.walk.specs.declared.Turned.{Turned}
-use Rattle.walk.specs.declared.Turned.the-variants.{Done as Turned·Done, On}
+use Rattle.walk.specs.declared.NextTurn.{NextTurn}
+use Rattle.walk.specs.declared.NextTurn.the-variants.{Done as NextTurn·Done, On}
 use Rattle.walk.proofs.Going as Going
 use Rattle.walk.proofs.Going.{left, come-left, turn-left, gone}
 use Rattle.answer.specs.Forms.{encodeAll, rowSize}
-use Rattle.pages.specs.Rows.{rowsOf}
-use Rattle.pages.specs.Pages.{stretchOf, rawForms, Slot, Ahead, Ordered, Standing, Coming, Counted, Ending, Ended, First, unknownSlot}
+use Rattle.tally_rows.specs.Rows.{rowsOf}
+use Rattle.tally_rows.specs.OpenRows.{stretchOf, rawForms, Slot, Ahead, Ordered, Standing, Coming, Counted, Ending, Ended, First, unknownSlot}
 use Rattle.tally.specs.Private.{heldMark, rawBlank, rawOf, walked, AllComing, AllCounted}
-use Rattle.pages.specs.declared.Page.{Page}
-use Rattle.pages.proofs.Paging.{unknown-slot, first-standing}
+use Rattle.tally_rows.specs.declared.OpenRow.{OpenRow}
+use Rattle.tally_rows.proofs.Filling.{unknown-slot, first-standing}
 
 -- ---- the stretches of a window are in order
 
@@ -73,12 +73,12 @@ raw-ordered v start end c h = go (decLe lo hi)
 
 -- ---- the last stretch
 
-module _ {start end after : ℕ} {all : List (Span Mark)} {room now : List ℕ} {p : Page} {row whole : List ℕ}
+module _ {start end after : ℕ} {all : List (Span Mark)} {room now : List ℕ} {p : OpenRow} {row whole : List ℕ}
     (x : Standing all (stretchOf after end unknown ∷ []) start end room now p row whole) where
   pub last-coming : Coming now p start end after end unknownSlot row whole
   last-coming = record { all = all; left = []; room = room; mark = unknown; is = unknown-slot; stands = x }
 
-  module _ {now1 : List ℕ} {p1 : Page} {row1 whole1 : List ℕ} (k : Counted now p start end after end unknownSlot row whole now1 p1 row1 whole1) where
+  module _ {now1 : List ℕ} {p1 : OpenRow} {row1 whole1 : List ℕ} (k : Counted now p start end after end unknownSlot row whole now1 p1 row1 whole1) where
     last-counted : Standing all [] start end room now1 p1 row1 whole1
     last-counted = k .on all [] room unknown unknown-slot x
 
@@ -90,7 +90,7 @@ module _ {start end after : ℕ} {all : List (Span Mark)} {room now : List ℕ} 
 
 -- a venue without data has no other
 pub blank-first : {start end : ℕ} {room : List ℕ} → start < end → Inside 0 (rowSize * (length (rowsOf start end) + 1)) room
-    → {p : Page} {row whole : List ℕ} → First start end p row whole
+    → {p : OpenRow} {row whole : List ℕ} → First start end p row whole
     → Standing (rawBlank start end) (rawBlank start end) start end room room p row whole
 blank-first {start} {end} h fits f = first-standing (rawBlank start end) h (blank-ordered start end) (omega (arith, fits)) f
 
@@ -104,7 +104,7 @@ module _ (s : List ℕ) (first : ℕ) (ats offsets rules : List ℕ) (hi : ℕ) 
   zone = zoneOf first ats offsets
 
   abbrev pub venue : Venue Held
-  venue = venueBy zone (governing (map (ruleAt s) rules))
+  venue = venueBy zone (governingRule (map (ruleAt s) rules))
 
   abbrev pub pieces : Walk → List (Span Mark)
   pieces w = left heldMark s zone venue hi w
@@ -114,7 +114,7 @@ module _ (s : List ℕ) (first : ℕ) (ats offsets rules : List ℕ) (hi : ℕ) 
   ComesFirst w q a = Comes s zone venue hi w q a
 
   -- pieces are counted while the walk goes on
-  pub record Walked (start end : ℕ) (w : Walk) (now : List ℕ) (p : Page) (row whole : List ℕ) (w′ : Walk) (now′ : List ℕ) (p′ : Page)
+  pub record Walked (start end : ℕ) (w : Walk) (now : List ℕ) (p : OpenRow) (row whole : List ℕ) (w′ : Walk) (now′ : List ℕ) (p′ : OpenRow)
       (row′ whole′ : List ℕ) : Type 0 where
     pub on : (all last : List (Span Mark)) (room : List ℕ) → Standing all (pieces w ++ last) start end room now p row whole
         → Standing all (pieces w′ ++ last) start end room now′ p′ row′ whole′
@@ -122,16 +122,16 @@ module _ (s : List ℕ) (first : ℕ) (ats offsets rules : List ℕ) (hi : ℕ) 
 
   module _ {start end : ℕ} where
     walk-standing : {lo : ℕ} {w : Walk} {a : List ℕ} → Begun s zone venue (turns - 1) lo w a
-        → {all : List (Span Mark)} (last : List (Span Mark)) {room now : List ℕ} {p : Page} {row whole : List ℕ}
+        → {all : List (Span Mark)} (last : List (Span Mark)) {room now : List ℕ} {p : OpenRow} {row whole : List ℕ}
         → Standing all (walked s first ats offsets rules lo hi ++ last) start end room now p row whole
         → Standing all (pieces w ++ last) start end room now p row whole
     walk-standing b {all} last {room} {now} {p} {row} {whole} x =
         subst (λ (l : List (Span Mark)). Standing all (l ++ last) start end room now p row whole) (sym (ap (map heldMark) (b .all hi))) x
 
-    pub walked-none : {w : Walk} {now : List ℕ} {p : Page} {row whole : List ℕ} → Walked start end w now p row whole w now p row whole
+    pub walked-none : {w : Walk} {now : List ℕ} {p : OpenRow} {row whole : List ℕ} → Walked start end w now p row whole w now p row whole
     walked-none = record { on = λ all last room x. x; kept = refl }
 
-    module _ {w : Walk} {now : List ℕ} {p : Page} {row whole : List ℕ} {w1 : Walk} {now1 : List ℕ} {p1 : Page} {row1 whole1 : List ℕ}
+    module _ {w : Walk} {now : List ℕ} {p : OpenRow} {row whole : List ℕ} {w1 : Walk} {now1 : List ℕ} {p1 : OpenRow} {row1 whole1 : List ℕ}
         (r : Walked start end w now p row whole w1 now1 p1 row1 whole1) where
       -- a piece comes
       module _ {q : Piece} {a : List ℕ} (c : ComesFirst w1 q a) {j : ℕ} (e : (j ≡ pointOf s q (q .point) .phase) × (j ≤ lastPhase)) where
@@ -139,7 +139,7 @@ module _ (s : List ℕ) (first : ℕ) (ats offsets rules : List ℕ) (hi : ℕ) 
         is = record { is = e .0; low = omega (arith, e .0, e .1) }
 
         piece-standing : (all last : List (Span Mark)) (room : List ℕ) → Standing all (pieces w ++ last) start end room now p row whole
-            → Standing all (stretchOf (q .from .0) (q .to .0) (markOf s q) ∷ (pieces (behind q) ++ last)) start end room now1 p1 row1 whole1
+            → Standing all (stretchOf (q .from .0) (q .to .0) (markOf s q) ∷ (pieces (afterPiece q) ++ last)) start end room now1 p1 row1 whole1
         piece-standing all last room x =
             subst (λ (l : List (Span Mark)). Standing all (l ++ last) start end room now1 p1 row1 whole1) (come-left c heldMark) (r .on all last room x)
 
@@ -149,7 +149,7 @@ module _ (s : List ℕ) (first : ℕ) (ats offsets rules : List ℕ) (hi : ℕ) 
         walked-coming b x =
             record {
               all = x .all;
-              left = pieces (behind q) ++ x .last;
+              left = pieces (afterPiece q) ++ x .last;
               room = x .room;
               mark = markOf s q;
               is = is;
@@ -157,22 +157,22 @@ module _ (s : List ℕ) (first : ℕ) (ats offsets rules : List ℕ) (hi : ℕ) 
             }
 
         -- and is counted
-        module _ {w2 : Walk} (i : w2 ≡ behind q) where
-          pub walked-next : {now2 : List ℕ} {p2 : Page} {row2 whole2 : List ℕ}
+        module _ {w2 : Walk} (i : w2 ≡ afterPiece q) where
+          pub walked-next : {now2 : List ℕ} {p2 : OpenRow} {row2 whole2 : List ℕ}
               → Counted now1 p1 start end (q .from .0) (q .to .0) j row1 whole1 now2 p2 row2 whole2
               → Walked start end w now p row whole w2 now2 p2 row2 whole2
           walked-next {now2} {p2} {row2} {whole2} k =
               record {
                 on = λ all last room x.
                     subst (λ (y : Walk). Standing all (pieces y ++ last) start end room now2 p2 row2 whole2) (sym i)
-                    (k .on all (pieces (behind q) ++ last) room (markOf s q) is (piece-standing all last room x));
+                    (k .on all (pieces (afterPiece q) ++ last) room (markOf s q) is (piece-standing all last room x));
                 kept = k .kept ∙ r .kept;
               }
 
       -- the walk turns, or is done and all its pieces are counted
-      module _ (t : Turned) (a : List ℕ) (l : Leads s zone venue hi w1 t a) where
+      module _ (t : NextTurn) (a : List ℕ) (l : IsNextTurn s zone venue hi w1 t a) where
         module _ {w2 : Walk} (e : t ≡ On w2) where
-          pub turned : LeadsOn s zone venue hi w1 w2 a
+          pub turned : TurnsOn s zone venue hi w1 w2 a
           turned = Going.turned s zone venue hi w1 t a l e
 
           pub turn-walked : Walked start end w now p row whole w2 now1 p1 row1 whole1
@@ -183,7 +183,7 @@ module _ (s : List ℕ) (first : ℕ) (ats offsets rules : List ℕ) (hi : ℕ) 
                 kept = r .kept;
               }
 
-        pub walk-counted : t ≡ Turned·Done → {lo : ℕ} {a′ : List ℕ} → Begun s zone venue (turns - 1) lo w a′
+        pub walk-counted : t ≡ NextTurn·Done → {lo : ℕ} {a′ : List ℕ} → Begun s zone venue (turns - 1) lo w a′
             → AllCounted (walked s first ats offsets rules lo hi) now p start end row whole now1 p1 row1 whole1
         walk-counted e b =
             let done = ap (map heldMark) (gone s zone venue hi w1 t a l e) in
@@ -205,7 +205,7 @@ module _ (s : List ℕ) (h : Header) (ats offsets rules events : List ℕ) where
       map heldMark (walk (venueOf values) (min end (h .end .0)) turns (max start (h .start .0))) ++ (stretchOf (max start (h .end .0)) end unknown ∷ [])
 
   -- the page is open, and it is known where the walk begins and ends
-  pub record Opens (start end : ℕ) (room : List ℕ) (p : Page) (row whole : List ℕ) (before lo hi after : ℕ) : Type 0 where
+  pub record Opens (start end : ℕ) (room : List ℕ) (p : OpenRow) (row whole : List ℕ) (before lo hi after : ℕ) : Type 0 where
     pub covers : h .start .0 < h .end .0
     pub order : start < end
     pub fits : Inside 0 (rowSize * (length (rowsOf start end) + 1)) room
@@ -215,7 +215,7 @@ module _ (s : List ℕ) (h : Header) (ats offsets rules events : List ℕ) where
     pub hi-is : hi ≡ min end (h .end .0)
     pub after-is : after ≡ max start (h .end .0)
 
-  module _ {start end : ℕ} {room : List ℕ} {p : Page} {row whole : List ℕ} {before lo hi after : ℕ}
+  module _ {start end : ℕ} {room : List ℕ} {p : OpenRow} {row whole : List ℕ} {before lo hi after : ℕ}
       (o : Opens start end room p row whole before lo hi after) where
     venue-first : Standing (rawOf values start end) (stretchOf start before unknown ∷ behindFirst start end) start end room room p row whole
     venue-first =
@@ -235,19 +235,19 @@ module _ (s : List ℕ) (h : Header) (ats offsets rules events : List ℕ) where
         }
 
     -- then the walk comes
-    module _ {now1 : List ℕ} {p1 : Page} {row1 whole1 : List ℕ} (k : Counted room p start end start before unknownSlot row whole now1 p1 row1 whole1) where
-      walk-coming : Standing (rawOf values start end) (walked s (h .first) ats offsets rules lo hi ++ (stretchOf after end unknown ∷ [])) start end room now1 p1 row1 whole1
+    module _ {now1 : List ℕ} {p1 : OpenRow} {row1 whole1 : List ℕ} (k : Counted room p start end start before unknownSlot row whole now1 p1 row1 whole1) where
+      walk-coming : Standing (rawOf values start end) (walked s (h .offset0) ats offsets rules lo hi ++ (stretchOf after end unknown ∷ [])) start end room now1 p1 row1 whole1
       walk-coming =
           let l = o .lo-is in
           let i = o .hi-is in
           let e = o .after-is in
           rw (l, i, e) (k .on (rawOf values start end) (behindFirst start end) room unknown unknown-slot venue-first)
 
-      pub venue-all-coming : AllComing (walked s (h .first) ats offsets rules lo hi) now1 p1 start end row1 whole1
+      pub venue-all-coming : AllComing (walked s (h .offset0) ats offsets rules lo hi) now1 p1 start end row1 whole1
       venue-all-coming = record { all = rawOf values start end; last = stretchOf after end unknown ∷ []; room = room; stands = walk-coming }
 
       -- and the last stretch
-      pub venue-walked : {now2 : List ℕ} {p2 : Page} {row2 whole2 : List ℕ}
-          → AllCounted (walked s (h .first) ats offsets rules lo hi) now1 p1 start end row1 whole1 now2 p2 row2 whole2
+      pub venue-walked : {now2 : List ℕ} {p2 : OpenRow} {row2 whole2 : List ℕ}
+          → AllCounted (walked s (h .offset0) ats offsets rules lo hi) now1 p1 start end row1 whole1 now2 p2 row2 whole2
           → Standing (rawOf values start end) (stretchOf after end unknown ∷ []) start end room now2 p2 row2 whole2
       venue-walked w = w .on (rawOf values start end) (stretchOf after end unknown ∷ []) room walk-coming

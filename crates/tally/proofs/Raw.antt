@@ -18,11 +18,11 @@ use Rattle.spans.proofs.Totals.{same-count, total-count}
 use Rattle.day.specs.Days.{Values, Held, venueBy, venueOf}
 use Rattle.answer.specs.Forms.{Form, tally}
 use Rattle.answer.specs.Meaning.{totalsOf}
-use Rattle.tell.specs.Shown.{Shown, shown}
+use Rattle.span_records.specs.Shown.{Shown, shown}
 use Rattle.timeline.specs.Segments.{segments, showing, timelineOf}
 use Rattle.timeline.proofs.Parts.{merges}
-use Rattle.pages.specs.Rows.{rowsOf, rowTotals, dayForm, formsBy}
-use Rattle.pages.specs.Pages.{marks, stretchOf}
+use Rattle.tally_rows.specs.Rows.{rowsOf, rowTotals, dayForm, formsBy}
+use Rattle.tally_rows.specs.OpenRows.{marks, stretchOf}
 use Rattle.tally.specs.Private.{heldMark, rawBlank, rawOf}
 
 -- ---- lists of spans

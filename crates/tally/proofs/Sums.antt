@@ -22,13 +22,13 @@ use Rattle.spans.proofs.Totals.{total-count}
 use Rattle.day.specs.Days.{valuesOf}
 use Rattle.query.specs.Judging.{windowRefusal}
 use Rattle.query.proofs.Order.{window-passed}
-use Rattle.tell.specs.Shown.{Shown}
+use Rattle.span_records.specs.Shown.{Shown}
 use Rattle.timeline.specs.Asking.{segmentsBy}
 use Rattle.timeline.specs.Segments.{segments, markOf, timelineOf}
 use Rattle.timeline.proofs.Shape.{window-shape}
 use Rattle.timeline.proofs.Bounds.{Bodies, Shows, rowMost, bodies-keep, segments-good}
-use Rattle.pages.specs.Rows.{rowEnd, rowsFrom, rowsOf, rowTotals}
-use Rattle.pages.specs.Pages.{Low}
+use Rattle.tally_rows.specs.Rows.{rowEnd, rowsFrom, rowsOf, rowTotals}
+use Rattle.tally_rows.specs.OpenRows.{Low}
 use Rattle.tally.proofs.Raw.{backwards}
 
 abbrev pub sum : List ℕ → ℕ

@@ -17,7 +17,7 @@ use Rattle.spans.specs.Totals.{total}
 use Rattle.day.specs.Governing.{governingFrom}
 use Rattle.query.specs.Judging.{windowRefusal}
 use Rattle.answer.specs.Forms.{day, tally}
-use Rattle.pages.specs.Rows.{rowsFrom}
+use Rattle.tally_rows.specs.Rows.{rowsFrom}
 use Rattle.book_query.specs.Judging.{windowNumber}
 use Rattle.tally.specs.Tallying.{tallyForms, tallyNumber}
 

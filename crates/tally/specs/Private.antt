@@ -7,10 +7,10 @@ use Rattle.zone.specs.Zone.{zoneOf}
 use Rattle.records.specs.Records.{ruleAt}
 use Rattle.spans.specs.Spans.{Mark, phase, unknown, Span}
 use Rattle.spans.specs.Timeline.{turns, walk}
-use Rattle.day.specs.Governing.{governing}
+use Rattle.day.specs.Governing.{governingRule}
 use Rattle.day.specs.Days.{Values, Held, venueBy, venueOf}
-use Rattle.pages.specs.Pages.{stretchOf, Standing}
-use Rattle.pages.specs.declared.Page.{Page}
+use Rattle.tally_rows.specs.OpenRows.{stretchOf, Standing}
+use Rattle.tally_rows.specs.declared.OpenRow.{OpenRow}
 
 abbrev pub heldMark : Span Held → Span Mark
 heldMark s = stretchOf (s .from) (s .to) (phase (s .body .phase) (s .body .rule .evidence))
@@ -27,16 +27,16 @@ rawOf v start end =
 
 -- the stretches of a walk, by places in the book
 abbrev pub walked : List ℕ → ℕ → List ℕ → List ℕ → List ℕ → ℕ → ℕ → List (Span Mark)
-walked s first ats offsets rules lo hi = map heldMark (walk (venueBy (zoneOf first ats offsets) (governing (map (ruleAt s) rules))) hi turns lo)
+walked s first ats offsets rules lo hi = map heldMark (walk (venueBy (zoneOf first ats offsets) (governingRule (map (ruleAt s) rules))) hi turns lo)
 
 -- several stretches come next, and are counted
-pub record AllComing (ss : List (Span Mark)) (now : List ℕ) (p : Page) (start end : ℕ) (row whole : List ℕ) : Type 0 where
+pub record AllComing (ss : List (Span Mark)) (now : List ℕ) (p : OpenRow) (start end : ℕ) (row whole : List ℕ) : Type 0 where
   pub all : List (Span Mark)
   pub last : List (Span Mark)
   pub room : List ℕ
   pub stands : Standing all (ss ++ last) start end room now p row whole
 
-pub record AllCounted (ss : List (Span Mark)) (now : List ℕ) (p : Page) (start end : ℕ) (row whole now′ : List ℕ) (p′ : Page)
+pub record AllCounted (ss : List (Span Mark)) (now : List ℕ) (p : OpenRow) (start end : ℕ) (row whole now′ : List ℕ) (p′ : OpenRow)
     (row′ whole′ : List ℕ) : Type 0 where
   pub on : (all last : List (Span Mark)) (room : List ℕ) → Standing all (ss ++ last) start end room now p row whole
       → Standing all last start end room now′ p′ row′ whole′

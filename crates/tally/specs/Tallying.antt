@@ -7,7 +7,7 @@ use lib.IntN.{ℤ}
 use Rattle.answer.specs.Forms.{Form, encodeAll}
 use Rattle.timeline.specs.Segments.{segments}
 use Rattle.timeline.specs.Asking.{segmentsOf}
-use Rattle.pages.specs.Rows.{formsBy, mostNs}
+use Rattle.tally_rows.specs.Rows.{formsBy, mostTallyNs}
 use Rattle.zone.specs.Units.{instantOf}
 use Rattle.book_query.specs.Judging.{windowNumber}
 use Rattle.records.specs.Book.{orThen}
@@ -21,7 +21,7 @@ tallyAnswer s start end = encodeAll (tallyForms s start end)
 
 -- 13: a tally over 400 days
 abbrev pub tooLong : ℕ → ℕ → ℕ
-tooLong start end = cond (ltb mostNs (end - start)) 13 0
+tooLong start end = cond (ltb mostTallyNs (end - start)) 13 0
 
 -- the book's number, else the window's: 10, 11, 12; else 13
 unfoldable pub tallyNumber : List ℕ → ℤ → ℤ → ℕ

@@ -7,28 +7,28 @@ ghost use Rattle.zone.specs.Answers.{Valid};
 ghost use Rattle.venue.specs.Reading.{ListedRules};
 ghost use Rattle.venue.specs.Filled.{Ready};
 ghost use Rattle.day.specs.Meaning.{valuesAt};
-ghost use Rattle.pages.specs.Rows.{rowsOf};
-ghost use Rattle.pages.specs.Pages.{rawForms};
+ghost use Rattle.tally_rows.specs.Rows.{rowsOf};
+ghost use Rattle.tally_rows.specs.OpenRows.{rawForms};
 ghost use Rattle.tally.specs.Private.{rawBlank, rawOf, walked, AllComing, AllCounted};
 use answer::TOTALS;
-use day::MOST_KEPT;
-use pages::Page;
-use pages::UNKNOWN;
-use pages::finish;
-use pages::first_page;
-use pages::stretch;
+use day::NEAR_RULES_LENGTH;
 use spans::earlier;
 use spans::later;
+use tally_rows::OpenRow;
+use tally_rows::UNKNOWN;
+use tally_rows::finish;
+use tally_rows::first_row;
+use tally_rows::stretch;
 use venue::Header;
 use venue::point_phase;
 use walk::MOST_BOUNDARIES;
 use walk::MOST_TURNS;
-use walk::Pulled;
-use walk::Turned;
+use walk::NextPiece;
+use walk::NextTurn;
+use walk::after_piece;
 use walk::begin;
-use walk::behind;
-use walk::here;
-use walk::turn_on;
+use walk::next_piece;
+use walk::next_turn;
 use zone::Instant;
 
 // A venue without data.
@@ -38,10 +38,10 @@ pub(crate) fn put_blank(start: Instant, end: Instant, out: &mut [u8]) -> usize
 {
     let mut row = [0u64; TOTALS];
     let mut whole = [0u64; TOTALS];
-    let page = first_page(start, end, &mut row, &mut whole);
+    let current = first_row(start, end, &mut row, &mut whole);
     let last = stretch(
         out,
-        page,
+        current,
         start,
         end,
         start,
@@ -56,7 +56,7 @@ pub(crate) fn put_blank(start: Instant, end: Instant, out: &mut [u8]) -> usize
 // Counts the pieces of the walk from `lo` to before `hi`.
 fn count_walk(
     book: &[u8],
-    first: u32,
+    offset0: u32,
     ats: &[u64],
     offsets: &[u32],
     rules: &[u32],
@@ -65,22 +65,22 @@ fn count_walk(
     start: Instant,
     end: Instant,
     out: &mut [u8],
-    page: Page,
+    current: OpenRow,
     row: &mut [u64; TOTALS],
     whole: &mut [u64; TOTALS],
-) -> Page
-    requires { ⌜ Valid first (now ats) (now offsets) × ListedRules (now book) (now rules)
-        × AllComing (walked (now book) first (now ats) (now offsets) (now rules) (lo .0) (hi .0)) (now out) page (start .0) (end .0) (now row) (now whole) ⌝ }
+) -> OpenRow
+    requires { ⌜ Valid offset0 (now ats) (now offsets) × ListedRules (now book) (now rules)
+        × AllComing (walked (now book) offset0 (now ats) (now offsets) (now rules) (lo .0) (hi .0)) (now out) current (start .0) (end .0) (now row) (now whole) ⌝ }
     ensures { λ r. ⌜ AllCounted
-        (walked (now (book .entry)) first (now (ats .entry)) (now (offsets .entry)) (now (rules .entry)) (lo .0) (hi .0))
-        (now (out .entry)) page (start .0) (end .0)
+        (walked (now (book .entry)) offset0 (now (ats .entry)) (now (offsets .entry)) (now (rules .entry)) (lo .0) (hi .0))
+        (now (out .entry)) current (start .0) (end .0)
         (now (row .entry)) (now (whole .entry)) (now (out .exit)) r (now (row .exit)) (now (whole .exit)) ⌝ }
 {
-    let mut kept = [0u32; MOST_KEPT];
+    let mut kept = [0u32; NEAR_RULES_LENGTH];
     let mut edges = [0u64; MOST_BOUNDARIES];
     let opening = begin(
         book,
-        first,
+        offset0,
         ats,
         offsets,
         rules,
@@ -91,19 +91,19 @@ fn count_walk(
     );
     // A copy, whose fields the loop can hold in registers: the place that `begin` fills stays in memory.
     let mut w = opening;
-    let mut place = page;
+    let mut place = current;
     'pieces: loop {
-        match here(book, &edges, hi, w) {
-            Pulled::Next(q) => {
+        match next_piece(book, &edges, hi, w) {
+            NextPiece::Next(q) => {
                 let from = q.from;
                 let to = q.to;
                 let phase = point_phase(book, q.rule as usize, q.point);
                 place = stretch(out, place, start, end, from, to, phase as usize, row, whole);
-                w = behind(q);
+                w = after_piece(q);
             }
-            Pulled::Done => match turn_on(
+            NextPiece::Done => match next_turn(
                 book,
-                first,
+                offset0,
                 ats,
                 offsets,
                 rules,
@@ -112,8 +112,8 @@ fn count_walk(
                 hi,
                 w,
             ) {
-                Turned::Done => break 'pieces,
-                Turned::On(next) => {
+                NextTurn::Done => break 'pieces,
+                NextTurn::On(next) => {
                     w = next;
                 }
             },
@@ -134,7 +134,7 @@ pub(crate) fn put_tallies(
     end: Instant,
     out: &mut [u8],
 ) -> usize
-    requires { ⌜ Ready (now book) (h .first) (now ats) (now offsets) (now rules) (now events) × (h .start .0 < h .end .0)
+    requires { ⌜ Ready (now book) (h .offset0) (now ats) (now offsets) (now rules) (now events) × (h .start .0 < h .end .0)
         × (start .0 < end .0) × Inside 0 (rowSize * (length (rowsOf (start .0) (end .0)) + 1)) (now out) ⌝ }
     ensures { λ r. ⌜ Put (now (out .entry)) 0
         (encodeAll (rawForms
@@ -144,17 +144,17 @@ pub(crate) fn put_tallies(
 {
     let covered_from = h.start;
     let covered_to = h.end;
-    let first = h.first;
+    let offset0 = h.offset0;
     let before = Instant(earlier(end.0, covered_from.0));
     let lo = Instant(later(start.0, covered_from.0));
     let hi = Instant(earlier(end.0, covered_to.0));
     let after = Instant(later(start.0, covered_to.0));
     let mut row = [0u64; TOTALS];
     let mut whole = [0u64; TOTALS];
-    let page = first_page(start, end, &mut row, &mut whole);
+    let current = first_row(start, end, &mut row, &mut whole);
     let opened = stretch(
         out,
-        page,
+        current,
         start,
         end,
         start,
@@ -165,7 +165,7 @@ pub(crate) fn put_tallies(
     );
     let walked = count_walk(
         book,
-        first,
+        offset0,
         ats,
         offsets,
         rules,

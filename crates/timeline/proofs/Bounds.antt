@@ -13,7 +13,7 @@ use mir.Val.{SFits}
 use Rattle.wire.specs.Signs.{since, turned}
 use Rattle.wire.proofs.Reading.{field-below}
 use Rattle.wire.proofs.Signs.{meant-fits}
-use Rattle.zone.specs.Units.{dayNs, mostNs, lastInstant, nearestReading, readingAt}
+use Rattle.zone.specs.Units.{dayNs, mostOffsetNs, lastInstant, nearestReading, readingAt}
 use Rattle.zone.specs.Zone.{Zone, zoneOf, dateAt, byBefore, byAfter, reads, resolved, resolve}
 use Rattle.zone.specs.Answers.{Valid, uncertain, width, wider, widestOf}
 use Rattle.zone.specs.declared.Uncertainty.{Uncertainty}
@@ -31,7 +31,7 @@ use Rattle.venue.specs.Reading.{published, EachPoint, GoodRule, ListedRule}
 use Rattle.venue.proofs.Laws.{good-rule, places-listed, events-listed, events-count, zone-valid}
 use Rattle.spans.specs.Spans.{Span, Body, keep, clip, reach, joins, joinedSpan, joinFrom, joined}
 use Rattle.spans.specs.Timeline.{Edge, Venue, Part, midnight, raised, cut, ofPoints, ofRule, spans, walk, turns, unjoined, timeline}
-use Rattle.day.specs.Governing.{governing}
+use Rattle.day.specs.Governing.{governingRule}
 use Rattle.day.specs.Days.{boundaryOf, valuesOf}
 use Rattle.day.proofs.Listed.{governing-listed}
 use Rattle.walk.proofs.Laws.{walk-length}
@@ -40,7 +40,7 @@ use Rattle.events.specs.declared.Occurrence.{Occurrence}
 use Rattle.events.proofs.Order.{length-sorted}
 use Rattle.events.proofs.Few.{few}
 use Rattle.answer.specs.Used.{UsedUncertainty, UsedBoundary}
-use Rattle.tell.specs.Shown.{Shown}
+use Rattle.span_records.specs.Shown.{Shown}
 use Rattle.timeline.specs.Segments.{segments, showing, timelineOf}
 
 -- ---- how many events a span has at most, and a segment of a row: all that a walk shows may be joined, and there are two gaps
@@ -196,7 +196,7 @@ module _ (first : ℕ) (ats os : List ℕ) (ok : Valid first ats os) where
       b : ℕ
       b = byAfter z y
 
-      high : y + mostNs ≤ lastInstant
+      high : y + mostOffsetNs ≤ lastInstant
       high = omega arith
 
       a-in : a ≤ lastInstant
@@ -266,7 +266,7 @@ sorted-used (o ∷ os) e = insert-used o (byInstant os) (e .0) (sorted-used os (
 module _ (first : ℕ) (ats os : List ℕ) (ok : Valid first ats os)
     (g : ℕ → Option Rule) (fits : (d : ℕ) (r : Rule) → g d ≡ some r → RuleFits r)
     (es : List Event) (all : Every EventFits es)
-    (rare : (from to : ℕ) → to ≤ from + (dayNs + mostNs + mostNs) → length (found (zoneOf first ats os) es from to) ≤ mostInSpan) where
+    (rare : (from to : ℕ) → to ≤ from + (dayNs + mostOffsetNs + mostOffsetNs) → length (found (zoneOf first ats os) es from to) ≤ mostInSpan) where
   abbrev zone : Zone
   zone = zoneOf first ats os
 
@@ -279,11 +279,11 @@ module _ (first : ℕ) (ats os : List ℕ) (ok : Valid first ats os)
 
   -- a boundary of a date
   record On (d t : ℕ) : Type 0 where
-    low : opens d ≤ t + mostNs
-    high : t ≤ opens d + dayNs + mostNs
+    low : opens d ≤ t + mostOffsetNs
+    high : t ≤ opens d + dayNs + mostOffsetNs
     used : t ≤ lastInstant
 
-  taken-on : (d y t : ℕ) → y - mostNs ≤ t → t ≤ y + mostNs → opens d ≤ y → y ≤ opens d + dayNs → t ≤ lastInstant → On d t
+  taken-on : (d y t : ℕ) → y - mostOffsetNs ≤ t → t ≤ y + mostOffsetNs → opens d ≤ y → y ≤ opens d + dayNs → t ≤ lastInstant → On d t
   taken-on d y t a b c e h = record { low = omega arith; high = omega arith; used = h }
 
   on-date : (d x : ℕ) → (opens d ≤ nearestReading (readingAt d x)) × (nearestReading (readingAt d x) ≤ opens d + dayNs)
@@ -442,7 +442,7 @@ module _ (s : List ℕ) (b : Bytes s) where
       let o = offsetOf (c .offset) in
       let v = valuesOf rs c in
       let n = events-count s e in
-      timeline-good o (atsOf rs) (offsetsOf rs) ok (governing (rulesOf rs))
+      timeline-good o (atsOf rs) (offsetsOf rs) ok (governingRule (rulesOf rs))
       (λ d r i. let l = governing-listed s e d r i in subst RuleFits (l .is) (rule-fits (l .place) (l .listed))) (eventsOf rs)
       (subst (Every EventFits) (events-listed s e) (events-fit (eventPlaces s)))
       (λ from to h. subst (λ (l : List Event). length (found (v .zone) l from to) ≤ mostInSpan) (events-listed s e)

@@ -26,10 +26,10 @@ use Rattle.answer.proofs.Several.{one-form, encode-append, append-length}
 use Rattle.lend.specs.Lending.{Lent}
 use Rattle.lend.specs.declared.Reply.{Reply}
 use Rattle.lend.proofs.Replies.{lent-short, lent-written, lent-same, lent-reply}
-use Rattle.tell.specs.Shown.{Shown, shown, shownForms}
+use Rattle.span_records.specs.Shown.{Shown, shown, shownForms}
 use Rattle.joining.specs.Joining.{phases}
 use Rattle.walk_records.specs.Walked.{phaseForms, walkSpans}
-use Rattle.timeline.specs.Segments.{markOf, merged, segments, showing, timelineOf}
+use Rattle.timeline.specs.Segments.{markOf, mergedBodies, segments, showing, timelineOf}
 use Rattle.timeline.specs.Asking.{segmentForms, timelineForms}
 use Rattle.timeline.specs.Private.{gapForms, told}
 
@@ -143,7 +143,7 @@ module _ {v : Values} (c : Covered) {start end before lo hi after n : ℕ} (cut 
 
 -- ---- a timeline's records
 
-pub merges : (a b : Option Shown) → markOf (merged a b) ≡ markOf a
+pub merges : (a b : Option Shown) → markOf (mergedBodies a b) ≡ markOf a
 merges none b = refl
 merges (some a) none = refl
 merges (some a) (some b) = refl

@@ -19,7 +19,7 @@ use Rattle.spans.proofs.Shape.{unjoined-within, blank-shape}
 use Rattle.day.specs.Days.{valuesOf}
 use Rattle.query.specs.Judging.{windowRefusal}
 use Rattle.query.proofs.Order.{window-passed}
-use Rattle.tell.specs.Shown.{Shown}
+use Rattle.span_records.specs.Shown.{Shown}
 use Rattle.zone.specs.Units.{instantOf}
 use Rattle.timeline.specs.Segments.{segments, showing}
 use Rattle.timeline.specs.Asking.{segmentsBy, segmentsOf}

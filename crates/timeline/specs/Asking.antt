@@ -11,7 +11,7 @@ use Rattle.spans.specs.Spans.{Span}
 use Rattle.spans.specs.Timeline.{Part, blank}
 use Rattle.day.specs.Days.{valuesOf}
 use Rattle.answer.specs.Forms.{Cover, Form, unknown, encodeAll}
-use Rattle.tell.specs.Shown.{Shown, shownForms}
+use Rattle.span_records.specs.Shown.{Shown, shownForms}
 use Rattle.timeline.specs.Segments.{timelineOf}
 
 -- kind 17, or kind 16 with its 18s

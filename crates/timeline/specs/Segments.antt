@@ -7,8 +7,8 @@ use Rattle.records.specs.Records.{Rule, Event}
 use Rattle.spans.specs.Spans.{Mark, unknown, Span, Body}
 use Rattle.spans.specs.Timeline.{Venue, Part, timeline}
 use Rattle.day.specs.Days.{Values, venueBy}
-use Rattle.tell.specs.Shown.{Shown, shown}
-use Rattle.joining.specs.Joining.{phaseMark, joinedShown}
+use Rattle.span_records.specs.Shown.{Shown, shown}
+use Rattle.joining.specs.Joining.{phaseMark, mergedShown}
 
 -- ---- a segment shows a phase, or that nothing is known
 
@@ -16,13 +16,13 @@ abbrev pub markOf : Option Shown → Mark
 markOf none = unknown
 markOf (some x) = phaseMark x
 
-abbrev pub merged : Option Shown → Option Shown → Option Shown
-merged none b = none
-merged (some a) none = some a
-merged (some a) (some b) = some (joinedShown a b)
+abbrev pub mergedBodies : Option Shown → Option Shown → Option Shown
+mergedBodies none b = none
+mergedBodies (some a) none = some a
+mergedBodies (some a) (some b) = some (mergedShown a b)
 
 abbrev pub segments : Body (Option Shown)
-segments = record { mark = markOf; merge = merged }
+segments = record { mark = markOf; merge = mergedBodies }
 
 -- ---- a venue whose spans show their whole uncertainty and their events
 

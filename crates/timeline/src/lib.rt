@@ -1,4 +1,4 @@
 // The window answer, from a book's bytes to the answer's: unknown before coverage, the walk with touching spans joined, unknown after.
-mod ask;
+mod reply;
 
-pub use ask::window_answer;
+pub use reply::window_answer;

@@ -39,7 +39,7 @@ use Rattle.answer.proofs.Used.{instant-fits, values-fit, side-fits}
 use Rattle.rows.specs.Rows.{goodRow}
 use Rattle.rows.specs.Written.{instant, Tagged, GoodPhase, GoodGap, GoodEvent, Owing, RowFrom}
 use Rattle.rows.proofs.Writing.{written}
-use Rattle.tell.specs.Shown.{Shown, headForm, eventForm}
+use Rattle.span_records.specs.Shown.{Shown, headForm, eventForm}
 use Rattle.timeline.specs.Asking.{segmentForms, timelineForms, segmentsBy, statedCover, segmentsOf, windowForms, windowAnswer}
 use Rattle.timeline.proofs.Shape.{window-shape}
 use Rattle.timeline.proofs.Bounds.{rowMost, Every, Bodies, bodies-keep, Used, Good, Shows, segments-good}

@@ -26,7 +26,7 @@ use Rattle.rows.specs.Rows
 use Rattle.rows.specs.Rows.{Event, Seen}
 use Rattle.rows.specs.Written.{instant, eventsOf, seenOf}
 use Rattle.rows.proofs.Writing.{written}
-use Rattle.tell.specs.Shown.{Shown, eventForm}
+use Rattle.span_records.specs.Shown.{Shown, eventForm}
 use Rattle.timeline.specs.Segments.{markOf, segments}
 use Rattle.timeline.specs.Asking.{segmentForms, timelineForms, statedCover, segmentsOf, windowForms, windowAnswer}
 use Rattle.timeline.proofs.Shape.{window-shape}

@@ -5,7 +5,7 @@ use mathlib.Core.Option.{Option, none, some}
 use Rattle.zone.specs.Units.{instantNumber}
 use Rattle.spans.specs.Spans.{Mark, Span, Body}
 use Rattle.events.specs.declared.Occurrence.{Occurrence}
-use Rattle.tell.specs.Shown.{Shown}
+use Rattle.span_records.specs.Shown.{Shown}
 use Rattle.rows.specs.Rows.{Event, Seen}
 use Rattle.rows.specs.Written.{instant}
 use Rattle.timeline.specs.Segments.{markOf}

@@ -89,10 +89,10 @@ fn same(t: Instant, p: Placed) -> bool {
 }
 
 // Whether an instant reads as said.
-fn reads(first: u32, ats: &[u64], offsets: &[u32], t: Placed, x: Placed) -> bool
-    requires { ⌜ Valid first (now ats) (now offsets) ⌝ }
+fn reads(offset0: u32, ats: &[u64], offsets: &[u32], t: Placed, x: Placed) -> bool
+    requires { ⌜ Valid offset0 (now ats) (now offsets) ⌝ }
 {
-    let r = zone::reading_of(first, ats, offsets, zone::instant_of(t));
+    let r = zone::reading_of(offset0, ats, offsets, zone::instant_of(t));
     let shown = shown_at(x);
     let day = shown.day;
     (zone::day_of_reading(r).0 == day.0) & (zone::time_of_reading(r) == shown.time)
@@ -120,18 +120,18 @@ fn is_answer(r: Resolution, kind: u8, a: Placed, b: Placed) -> bool {
 }
 
 // Whether a case is answered as said.
-fn is_so(list: &[u8], at: usize, kind: u8, first: u32, ats: &[u64], offsets: &[u32]) -> bool
-    requires { ⌜ Valid first (now ats) (now offsets) ⌝ }
+fn is_so(list: &[u8], at: usize, kind: u8, offset0: u32, ats: &[u64], offsets: &[u32]) -> bool
+    requires { ⌜ Valid offset0 (now ats) (now offsets) ⌝ }
 {
     let a = number(list, at, 0);
     let b = number(list, at, 1);
     let c = number(list, at, 2);
     if kind == READING {
-        return reads(first, ats, offsets, a, b);
+        return reads(offset0, ats, offsets, a, b);
     }
     let shown = shown_at(a);
     let x = zone::reading_at(shown.day, shown.time);
-    let r = zone::to_utc(first, ats, offsets, x);
+    let r = zone::to_utc(offset0, ats, offsets, x);
     is_answer(r, kind, b, c)
 }
 
@@ -146,12 +146,12 @@ fn size(kind: u8) -> usize
 fn cases(
     list: &[u8],
     from: usize,
-    first: u32,
+    offset0: u32,
     ats: &[u64],
     offsets: &[u32],
     counts: &mut [u64],
 ) -> usize
-    requires { ⌜ Valid first (now ats) (now offsets) ⌝ }
+    requires { ⌜ Valid offset0 (now ats) (now offsets) ⌝ }
     ensures { λ r. ⌜ from ≤ r ⌝ }
 {
     let mut at = from;
@@ -160,7 +160,7 @@ fn cases(
         if (kind < READING) | (GAP < kind) {
             return at;
         }
-        met(counts, kind, is_so(list, at, kind, first, ats, offsets));
+        met(counts, kind, is_so(list, at, kind, offset0, ats, offsets));
         at += size(kind);
     }
     at
@@ -201,16 +201,16 @@ fn one_zone(list: &[u8], at: usize, kind: u8, counts: &mut [u64]) -> usize
     requires { ⌜ at < length (now list) ⌝ }
     ensures { λ r. ⌜ at < r ⌝ }
 {
-    let first = offset(number(list, at, 0));
+    let offset0 = offset(number(list, at, 0));
     let mut ats = [0u64; MOST];
     let mut offsets = [0u32; MOST];
     let held = changes(list, at + 9, &mut ats, &mut offsets);
     let n = held.count;
     let held_ats = &ats[..n];
     let held_offsets = &offsets[..n];
-    if zone::is_valid(first, held_ats, held_offsets) {
+    if zone::is_valid(offset0, held_ats, held_offsets) {
         met(counts, kind, true);
-        return cases(list, held.next, first, held_ats, held_offsets, counts);
+        return cases(list, held.next, offset0, held_ats, held_offsets, counts);
     }
     met(counts, kind, false);
     held.next

@@ -23,9 +23,9 @@ use Rattle.venue.proofs.Known.{Known, counts}
 
 -- ---- what was stored is what a reader may rely on
 
-pub ready : {s : List ℕ} {h : Header} → Known s h → Ready s (h .first) (atsOf (records s)) (offsetsOf (records s)) (rulePlaces s) (eventPlaces s)
+pub ready : {s : List ℕ} {h : Header} → Known s h → Ready s (h .offset0) (atsOf (records s)) (offsetsOf (records s)) (rulePlaces s) (eventPlaces s)
 ready {s} {h} k =
-    let first = ap (λ (x : Header). x .first) (k .header) in
+    let first = ap (λ (x : Header). x .offset0) (k .header) in
     record {
       zone = rw first (zone-valid s (k .accepted) (k .covered) (k .is));
       rules-listed = places-listed ruleKind s (k .accepted);
@@ -73,7 +73,7 @@ module _ {s ats offsets rules events : List ℕ} {o : Opened} (w : Filled s o at
   pub events-in : h .events ≤ length events
   events-in = let c = events-count s (k .accepted) in omega (arith, counts k .2, c .0, c .1, w .events-long)
 
-  pub front-ready : Ready s (h .first) (take (h .transitions) ats) (take (h .transitions) offsets) (take (h .rules) rules) (take (h .events) events)
+  pub front-ready : Ready s (h .offset0) (take (h .transitions) ats) (take (h .transitions) offsets) (take (h .rules) rules) (take (h .events) events)
   front-ready = rw (ats-front, offsets-front, rules-front, events-front) (ready k)
 
 -- ---- the lengths

@@ -123,7 +123,7 @@ module _ (s : List ℕ) (e : refusal base s ≡ 0) (ne : length s ≡ 0 → ⊥)
       (record {
         start = record { 0 = a };
         end = record { 0 = b };
-        first = o - (half w32 - mostOffset);
+        offset0 = o - (half w32 - mostOffset);
         transitions = n .transitions;
         rules = n .rules;
         events = n .events;

@@ -88,7 +88,7 @@ headerOf rs c =
     record {
       start = record { 0 = instantOf (c .start) };
       end = record { 0 = instantOf (c .end) };
-      first = offsetOf (c .offset);
+      offset0 = offsetOf (c .offset);
       transitions = many transitionKind rs;
       rules = many ruleKind rs;
       events = many eventKind rs;

@@ -31,7 +31,7 @@ use zone::instant_of_seconds;
 pub struct Header {
     pub start: Instant,
     pub end: Instant,
-    pub first: u32,
+    pub offset0: u32,
     pub transitions: usize,
     pub rules: usize,
     pub events: usize,
@@ -128,12 +128,12 @@ pub fn open(
     }
     let start = instant_of(signed8(book, COVERAGE_START));
     let end = instant_of(signed8(book, COVERAGE_END));
-    let first = signed4(book, COVERAGE_OFFSET).0 - OFFSETS_LOW;
+    let offset0 = signed4(book, COVERAGE_OFFSET).0 - OFFSETS_LOW;
     let n = store(book, ats, offsets, rules, events);
     Opened::Venue(Header {
         start,
         end,
-        first,
+        offset0,
         transitions: n.transitions,
         rules: n.rules,
         events: n.events,

@@ -21,7 +21,7 @@ use Rattle.zone.specs.declared.Uncertainty.{Uncertainty}
 use Rattle.zone.specs.declared.Uncertainty.the-variants.{Exact}
 use Rattle.records.specs.Records.{Rule}
 use Rattle.walk.specs.Walking as Walking
-use Rattle.walk.specs.Walking.{edgeInstants, isExact, Calm}
+use Rattle.walk.specs.Walking.{edgeInstants, isExact, ClearDate}
 use Rattle.walk.proofs.Edges.{instantAt, before, pointAt, edges-length, instant-next, instant-last}
 
 module _ (z : Zone) (r : Rule) (d : ℕ) where
@@ -86,40 +86,40 @@ and-both a b = (and-true a b, λ p. ap₂ _&&_ (p .0) (p .1))
 
 -- by the uncertainty of an exact time
 module _ (z : Zone) (d x : ℕ) {u : Uncertainty} (is : u ≡ uncertain (resolve z (nearestReading (readingAt d x))) Exact) {more : Bool} (so : more ≡ isExact u) where
-  time-clear : (more ≡ true) ↔ Walking.Clear z d x
+  time-clear : (more ≡ true) ↔ Walking.ClearTime z d x
   time-clear =
       let e : more ≡ isExact (uncertain (resolve z (nearestReading (readingAt d x))) Exact) = so ∙ ap isExact is in
       let c = exact-clear (resolve z (nearestReading (readingAt d x))) in
       (λ q. c .0 (sym e ∙ q), λ k. e ∙ c .1 k)
 
 module _ (z : Zone) (r : Rule) (d : ℕ) where
-  -- `calm` exactly where none of the first i points is
+  -- `clear` exactly where none of the first i points is
   abbrev pub ClearTo : Bool → ℕ → Type 0
-  ClearTo calm i = (calm ≡ true) ↔ ((j : ℕ) → j < i → Walking.Clear z d (pointAt z r d j .time))
+  ClearTo clear i = (clear ≡ true) ↔ ((j : ℕ) → j < i → Walking.ClearTime z d (pointAt z r d j .time))
 
   pub clear-none : ClearTo true 0
   clear-none = (λ e j h. absurd (omega arith), λ c. refl)
 
-  module _ (calm more : Bool) (i : ℕ) (c : ClearTo calm i) where
+  module _ (clear more : Bool) (i : ℕ) (c : ClearTo clear i) where
     pub clear-next : (u : Uncertainty) → u ≡ uncertain (resolve z (nearestReading (readingAt d (pointAt z r d i .time)))) Exact
-        → more ≡ isExact u → ClearTo (calm && more) (i + 1)
+        → more ≡ isExact u → ClearTo (clear && more) (i + 1)
     clear-next u e f =
         let own = time-clear z d (pointAt z r d i .time) e f in
-        let both = and-both calm more in (
+        let both = and-both clear more in (
           λ q j h. go (c .0 (both .0 q .0)) (own .0 (both .0 q .1)) j (decLt j i) h,
           λ k. both .1 (c .1 (λ j h. k j (omega arith)), own .1 (k i (omega arith))),
         )
       where
-        go : ((j : ℕ) → j < i → Walking.Clear z d (pointAt z r d j .time)) → Walking.Clear z d (pointAt z r d i .time) → (j : ℕ) → Dec (j < i)
-            → j < i + 1 → Walking.Clear z d (pointAt z r d j .time)
+        go : ((j : ℕ) → j < i → Walking.ClearTime z d (pointAt z r d j .time)) → Walking.ClearTime z d (pointAt z r d i .time) → (j : ℕ) → Dec (j < i)
+            → j < i + 1 → Walking.ClearTime z d (pointAt z r d j .time)
         go a k j (yes l) h = a j l
         go a k j (no l) h = let o : j ≡ i = omega arith in rw o k
 
     pub clear-all : i ≡ length (r .points) → (u : Uncertainty) → u ≡ uncertain (resolve z (nearestReading (readingAt (suc d) 0))) Exact
-        → more ≡ isExact u → ((calm && more) ≡ true) ↔ Calm z r d
+        → more ≡ isExact u → ((clear && more) ≡ true) ↔ ClearDate z r d
     clear-all l u e f =
         let last = time-clear z (suc d) 0 e f in
-        let both = and-both calm more in (
+        let both = and-both clear more in (
           λ q. record { points = λ j h. c .0 (both .0 q .0) j (omega arith); midnight = last .0 (both .0 q .1) },
           λ k. both .1 (c .1 (λ j h. k .points j (omega arith)), last .1 (k .midnight)),
         )

@@ -10,36 +10,36 @@ use Rattle.zone.specs.Answers.{Valid}
 use Rattle.spans.specs.Spans.{Span}
 use Rattle.spans.specs.Timeline.{Venue}
 use Rattle.day.specs.Days.{Held, venueBy}
-use Rattle.walk.specs.Walking.{shownPart, behind, rest, Stands, Comes}
-use Rattle.walk.specs.Looking.{Looked, Shown, Leads, LeadsOn}
+use Rattle.walk.specs.Walking.{shownPart, afterPiece, rest, WalkStands, Comes}
+use Rattle.walk.specs.Looking.{IsNextPiece, DateSpent, IsNextTurn, TurnsOn}
 use Rattle.walk.specs.declared.Walk.{Walk}
 use Rattle.walk.specs.declared.Piece.{Piece}
-use Rattle.walk.specs.declared.Pulled.{Pulled}
-use Rattle.walk.specs.declared.Pulled.the-variants.{Done, Next}
-use Rattle.walk.specs.declared.Turned.{Turned}
-use Rattle.walk.specs.declared.Turned.the-variants.{Done as Turned·Done, On}
-use Rattle.walk.proofs.Looking.{looked-shown, looked-comes}
+use Rattle.walk.specs.declared.NextPiece.{NextPiece}
+use Rattle.walk.specs.declared.NextPiece.the-variants.{Done, Next}
+use Rattle.walk.specs.declared.NextTurn.{NextTurn}
+use Rattle.walk.specs.declared.NextTurn.the-variants.{Done as NextTurn·Done, On}
+use Rattle.walk.proofs.Looking.{piece-spent, piece-comes}
 
 -- ---- a step, as its function answers
 
 module _ (first : ℕ) (ats os : List ℕ) (good : Valid first ats os) (s : List ℕ) (hi : ℕ) {w : Walk} {a : List ℕ}
-    (h : Stands s (zoneOf first ats os) w a) {p : Pulled} (l : Looked s a hi w p) where
+    (h : WalkStands s (zoneOf first ats os) w a) {p : NextPiece} (l : IsNextPiece s a hi w p) where
   pub come : (v : Venue Held) {q : Piece} → p ≡ Next q → Comes s (zoneOf first ats os) v hi w q a
-  come v e = looked-comes first ats os good s v hi w a h (subst (Looked s a hi w) e l)
+  come v e = piece-comes first ats os good s v hi w a h (subst (IsNextPiece s a hi w) e l)
 
-  pub shown : p ≡ Done → Shown s (zoneOf first ats os) hi w
-  shown e = looked-shown first ats os good s (venueBy (zoneOf first ats os) (λ d. none)) hi w a h (subst (Looked s a hi w) e l)
+  pub shown : p ≡ Done → DateSpent s (zoneOf first ats os) hi w
+  shown e = piece-spent first ats os good s (venueBy (zoneOf first ats os) (λ d. none)) hi w a h (subst (IsNextPiece s a hi w) e l)
 
-module _ (s : List ℕ) (z : Zone) (v : Venue Held) (hi : ℕ) (w : Walk) (t : Turned) (a : List ℕ) (l : Leads s z v hi w t a) where
-  pub turned : {w′ : Walk} → t ≡ On w′ → LeadsOn s z v hi w w′ a
-  turned e = subst (λ (x : Turned). Leads s z v hi w x a) e l
+module _ (s : List ℕ) (z : Zone) (v : Venue Held) (hi : ℕ) (w : Walk) (t : NextTurn) (a : List ℕ) (l : IsNextTurn s z v hi w t a) where
+  pub turned : {w′ : Walk} → t ≡ On w′ → TurnsOn s z v hi w w′ a
+  turned e = subst (λ (x : NextTurn). IsNextTurn s z v hi w x a) e l
 
-  pub gone : t ≡ Turned·Done → rest s z v hi w ≡ []
-  gone e = subst (λ (x : Turned). Leads s z v hi w x a) e l
+  pub gone : t ≡ NextTurn·Done → rest s z v hi w ≡ []
+  gone e = subst (λ (x : NextTurn). IsNextTurn s z v hi w x a) e l
 
 -- where the walk stands, by another name
-pub stands-on : {s : List ℕ} {z : Zone} {w w′ : Walk} {a : List ℕ} → w′ ≡ w → Stands s z w a → Stands s z w′ a
-stands-on {s} {z} {a = a} e h = subst (λ (x : Walk). Stands s z x a) (sym e) h
+pub stands-on : {s : List ℕ} {z : Zone} {w w′ : Walk} {a : List ℕ} → w′ ≡ w → WalkStands s z w a → WalkStands s z w′ a
+stands-on {s} {z} {a = a} e h = subst (λ (x : Walk). WalkStands s z x a) (sym e) h
 
 -- ---- what is left
 
@@ -53,13 +53,13 @@ toGo s z v hi w = length (rest s z v hi w) + w .turns
 
 module _ {s : List ℕ} {z : Zone} {v : Venue Held} {hi : ℕ} {w : Walk} {a : List ℕ} where
   module _ {q : Piece} (c : Comes s z v hi w q a) where
-    pub come-left : {A : Type 0} (f : Span Held → A) → left f s z v hi w ≡ f (shownPart s z q) ∷ left f s z v hi (behind q)
+    pub come-left : {A : Type 0} (f : Span Held → A) → left f s z v hi w ≡ f (shownPart s z q) ∷ left f s z v hi (afterPiece q)
     come-left f = ap (map f) (c .first)
 
-    pub come-fewer : {w′ : Walk} → w′ ≡ behind q → toGo s z v hi w′ < toGo s z v hi w
+    pub come-fewer : {w′ : Walk} → w′ ≡ afterPiece q → toGo s z v hi w′ < toGo s z v hi w
     come-fewer e = let l = ap length (c .first) in let m = ap (toGo s z v hi) e in omega (arith, l, m, c .turns)
 
-  module _ {w′ : Walk} (l : LeadsOn s z v hi w w′ a) where
+  module _ {w′ : Walk} (l : TurnsOn s z v hi w w′ a) where
     pub turn-left : {A : Type 0} (f : Span Held → A) → left f s z v hi w ≡ left f s z v hi w′
     turn-left f = ap (map f) (l .same)
 

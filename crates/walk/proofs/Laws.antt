@@ -16,7 +16,7 @@ use Rattle.spans.specs.Timeline.{Edge, Venue, midnight, raised, cut, ofPoints, 
 use Rattle.spans.proofs.Lists.{ordered, reach-within}
 use Rattle.spans.proofs.Walking.{here-within, walk-none}
 use Rattle.day.specs.Days.{Held}
-use Rattle.day.specs.Governing.{governing}
+use Rattle.day.specs.Governing.{governingRule}
 use Rattle.venue.specs.Reading.{ListedRules}
 use Rattle.day.proofs.Listed.{governing-source, source-good}
 use Rattle.walk.specs.AsWritten.{ifAny, asWritten}
@@ -123,6 +123,6 @@ rest-length {v = v} {turns = turns} {cursor = cursor} few b hi =
     rw (b .all hi) (walk-length v few hi (suc turns) cursor)
 
 -- the rules of a book have few points
-pub rules-few : (s : List ℕ) (rules : List ℕ) → ListedRules s rules → (d : ℕ) (r : Rule) → governing (map (ruleAt s) rules) d ≡ some r
+pub rules-few : (s : List ℕ) (rules : List ℕ) → ListedRules s rules → (d : ℕ) (r : Rule) → governingRule (map (ruleAt s) rules) d ≡ some r
     → length (r .points) ≤ base .points
 rules-few s rules listed d r e = source-good s r (governing-source s rules listed d r e) .few

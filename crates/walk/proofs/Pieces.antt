@@ -14,7 +14,7 @@ use Rattle.zone.specs.declared.Uncertainty.{Uncertainty}
 use Rattle.venue.specs.Reading.{published}
 use Rattle.spans.specs.Timeline.{Edge}
 use Rattle.day.specs.Days.{Held}
-use Rattle.walk.specs.Walking.{ruleOf, pointOf, startEdge, endEdge, heldIn, Calm, calmIn}
+use Rattle.walk.specs.Walking.{ruleOf, pointOf, startEdge, endEdge, heldIn, ClearDate, clearIn}
 use Rattle.walk.specs.declared.Piece.{Piece}
 
 module _ (s : List ℕ) (z : Zone) (q : Piece) where
@@ -67,8 +67,8 @@ module _ (s : List ℕ) (z : Zone) (q : Piece) where
       held-by i j k = cc
 
   -- between boundaries that are not in doubt
-  pub calm-span : q .point < many → Calm z (ruleOf s q) (q .date .0) → heldIn s z q ≡ calmIn s q
-  calm-span h c =
+  pub clear-span : q .point < many → ClearDate z (ruleOf s q) (q .date .0) → heldIn s z q ≡ clearIn s q
+  clear-span h c =
       sym (whole-span says says (pointOf s q (q .point) .phase) (sym (c .points (q .point) h says)) (sym (ends (ltb (q .point + 1) many) refl)) refl)
     where
       ends : (b : Bool) → ltb (q .point + 1) many ≡ b

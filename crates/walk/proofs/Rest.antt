@@ -28,12 +28,12 @@ use Rattle.day.specs.Meaning.{ruled}
 use Rattle.day.specs.declared.Governed.{Governed}
 use Rattle.day.specs.declared.Governed.the-variants.{Nothing, By}
 use Rattle.day.proofs.Points.{points-same}
-use Rattle.walk.specs.Walking.{ruleEdges, edgeInstants, onDate, onward, restWith, rest, Calm, Kept, Stands, heldIn, shownPart, endEdge, Showing, Begun, Comes}
+use Rattle.walk.specs.Walking.{ruleEdges, edgeInstants, onDate, onward, restWith, rest, ClearDate, EdgesKept, WalkStands, heldIn, shownPart, endEdge, Showing, Begun, Comes}
 use Rattle.walk.specs.declared.Walk.{Walk}
 use Rattle.walk.specs.declared.Piece.{Piece}
 use Rattle.walk.proofs.Edges.{nowhere, left, edgeAt, instantAt, pointAt, edges-length, edge-is, edge-end, left-all, left-one, left-within, left-none}
 use Rattle.walk.proofs.Near.{short}
-use Rattle.walk.proofs.Pieces.{calm-span}
+use Rattle.walk.proofs.Pieces.{clear-span}
 
 -- ---- the spans of a date, clipped
 
@@ -130,14 +130,14 @@ array-at a es e j h = sym (getD-take (length es) a j 0 h) ∙ ap (λ (l : List �
 -- a span that shows, of the rest
 rest-first : {A : Type 0} (v : Venue A) (hi : ℕ) (w : Walk) (x : Span A) (xs : List (Span A)) (g : Governed) (k : ℕ) (c : Bool) → w .began .0 < x .to
     → restWith v hi w (x ∷ xs)
-    ≡ x ∷ restWith v hi (record { turns = w .turns; began = w .began; cursor = record { 0 = x .to }; date = w .date; governed = g; next = k; calm = c }) xs
+    ≡ x ∷ restWith v hi (record { turns = w .turns; began = w .began; cursor = record { 0 = x .to }; date = w .date; governed = g; next = k; clear = c }) xs
 unfolding reach
 rest-first {A} v hi w x xs g k c h =
     let q = lt-ltb (w .began .0) (x .to) h in
     ap (λ (b : Bool). x ∷ (xs ++ (let next = reach (cond b (x .to) (min hi (midnight v (suc (w .date .0))))) xs in cond (ltb (w .began .0) next) (walk v hi (w .turns) next) []))) (sym q)
 
 module _ (first : ℕ) (ats os : List ℕ) (good : Valid first ats os) (s : List ℕ) (v : Venue Held) (hi : ℕ) (w : Walk) (a : List ℕ) (p n : ℕ)
-    (stands : Stands s (zoneOf first ats os) w a) (by : w .governed ≡ By p) (many : n ≡ length (ruleAt s p .points)) (some-in : 1 ≤ n) where
+    (stands : WalkStands s (zoneOf first ats os) w a) (by : w .governed ≡ By p) (many : n ≡ length (ruleAt s p .points)) (some-in : 1 ≤ n) where
   abbrev z : Zone
   z = zoneOf first ats os
 
@@ -150,8 +150,8 @@ module _ (first : ℕ) (ats os : List ℕ) (good : Valid first ats os) (s : List
   abbrev d : ℕ
   d = w .date .0
 
-  kept-by : Kept s z d (w .next) (w .calm) (By p) a
-  kept-by = subst (λ (g : Governed). Kept s z d (w .next) (w .calm) g a) by (stands .kept)
+  kept-by : EdgesKept s z d (w .next) (w .clear) (By p) a
+  kept-by = subst (λ (g : Governed). EdgesKept s z d (w .next) (w .clear) g a) by (stands .kept)
 
   stored : (j : ℕ) → j ≤ n → getD a j 0 ≡ instantAt z r d j
   stored j h =
@@ -191,7 +191,7 @@ module _ (first : ℕ) (ats os : List ℕ) (good : Valid first ats os) (s : List
             date = w .date;
             rule = p;
             point = k;
-            calm = w .calm;
+            clear = w .clear;
             turns = w .turns;
             began = w .began;
           }
@@ -227,8 +227,8 @@ module _ (first : ℕ) (ats os : List ℕ) (good : Valid first ats os) (s : List
           record {
             first =
                 ap (restWith v hi w) here-is
-                ∙ rest-first v hi w (shownPart s z piece) (clip to hi (left z r d (k + 1))) (By p) (k + 1) (w .calm) (omega arith);
-            fits = record { listed = kept-by .0; point = omega arith; shows = apart; short = omega (arith, start-is, end-is, near); calm = λ i. calm-span s z piece (omega arith) (kept-by .3 .0 i) };
+                ∙ rest-first v hi w (shownPart s z piece) (clip to hi (left z r d (k + 1))) (By p) (k + 1) (w .clear) (omega arith);
+            fits = record { listed = kept-by .0; point = omega arith; shows = apart; short = omega (arith, start-is, end-is, near); clear = λ i. clear-span s z piece (omega arith) (kept-by .3 .0 i) };
             stands = record { kept = (kept-by .0, omega arith, kept-by .2, kept-by .3); forward = omega arith };
             turns = refl;
           }
@@ -284,19 +284,19 @@ module _ (v : Venue Held) (hi turns began cursor date next : ℕ) (e : next ≡ 
 -- ---- a turn begins
 
 -- a date without a rule, and one whose boundaries are written
-pub kept-nothing : (s : List ℕ) (z : Zone) (d : ℕ) (a : List ℕ) {o : Governed} → o ≡ Nothing → Kept s z d 0 true o a
-kept-nothing s z d a e = subst (λ (g : Governed). Kept s z d 0 true g a) (sym e) refl
+pub kept-nothing : (s : List ℕ) (z : Zone) (d : ℕ) (a : List ℕ) {o : Governed} → o ≡ Nothing → EdgesKept s z d 0 true o a
+kept-nothing s z d a e = subst (λ (g : Governed). EdgesKept s z d 0 true g a) (sym e) refl
 
 pub kept-rule : (s : List ℕ) (z : Zone) (d : ℕ) (a old : List ℕ) (p : ℕ) {o : Governed} → o ≡ By p → ListedRule s p
-    → a ≡ wrote old 0 (edgeInstants z (ruleAt s p) d) → {calm : Bool}
-    → ((calm ≡ true) ↔ Calm z (ruleAt s p) d) → Kept s z d 0 calm o a
+    → a ≡ wrote old 0 (edgeInstants z (ruleAt s p) d) → {clear : Bool}
+    → ((clear ≡ true) ↔ ClearDate z (ruleAt s p) d) → EdgesKept s z d 0 clear o a
 unfolding wrote
-kept-rule s z d a old p e h w {calm} f =
-    subst (λ (g : Governed). Kept s z d 0 calm g a) (sym e)
+kept-rule s z d a old p e h w {clear} f =
+    subst (λ (g : Governed). EdgesKept s z d 0 clear g a) (sym e)
     (h, omega arith, ap (take (length (edgeInstants z (ruleAt s p) d))) w ∙ take-append-seam (edgeInstants z (ruleAt s p) d) _, f)
 
-module _ (s : List ℕ) (z : Zone) (g : ℕ → Option Rule) (t : ℕ) (c : Instant) (d : Day) (o : Governed) (calm : Bool) (a : List ℕ)
-    (date : d .0 ≡ dateAt z (c .0)) (rule : ruled s o ≡ g (d .0)) (kept : Kept s z (d .0) 0 calm o a) where
+module _ (s : List ℕ) (z : Zone) (g : ℕ → Option Rule) (t : ℕ) (c : Instant) (d : Day) (o : Governed) (clear : Bool) (a : List ℕ)
+    (date : d .0 ≡ dateAt z (c .0)) (rule : ruled s o ≡ g (d .0)) (kept : EdgesKept s z (d .0) 0 clear o a) where
   all-spans : onDate s z (d .0) 0 o ≡ spans (venueBy z g) (d .0)
   unfolding spans
   all-spans = go o ∙ ap (ofRule (venueBy z g) (d .0)) rule
@@ -306,7 +306,7 @@ module _ (s : List ℕ) (z : Zone) (g : ℕ → Option Rule) (t : ℕ) (c : Inst
       go (By p) = sym (left-all z (ruleAt s p) (d .0)) ∙ points-same z (λ x. none) g (ruleAt s p) (d .0) (ruleAt s p .points)
 
   abbrev start : Walk
-  start = record { turns = t; began = c; cursor = c; date = d; governed = o; next = 0; calm = calm }
+  start = record { turns = t; began = c; cursor = c; date = d; governed = o; next = 0; clear = clear }
 
   -- the rest, of where a date ends and its spans
   abbrev by : ℕ → ℕ → List (Span Held) → List (Span Held)

@@ -19,7 +19,7 @@ use Rattle.zone.proofs.Shifts.{steady-in, steady-date, steady-day-in, in-date, 
 use Rattle.records.specs.Records.{Point, Rule}
 use Rattle.venue.specs.Reading.{EachPoint}
 use Rattle.venue.specs.Reading as Reading
-use Rattle.walk.specs.Walking.{edgeInstants, Calm}
+use Rattle.walk.specs.Walking.{edgeInstants, ClearDate}
 use Rattle.walk.specs.Shifting.{Shifts, SteadyOn}
 use Rattle.walk.proofs.Filling.{Filling, filling-none, filling-next, filled}
 
@@ -83,8 +83,8 @@ time-in [] i e h = absurd (not-suc-le-zero h)
 time-in (p ∷ ps) zero e h = omega (arith, e .0)
 time-in (p ∷ ps) (suc i) e h = time-in ps i (e .2) (le-of-suc-le-suc h)
 
-pub shifts-calm : {z : Zone} {d m : ℕ} → Shifts z d m → (r : Rule) → EachPoint (r .points) → Calm z r d
-shifts-calm s r e =
+pub shifts-clear : {z : Zone} {d m : ℕ} → Shifts z d m → (r : Rule) → EachPoint (r .points) → ClearDate z r d
+shifts-clear s r e =
     record {
       points = λ i h u. ap (λ (b : Boundary). b .uncertainty) (s .times (getD (r .points) i Reading.midnight .time) u (time-in (r .points) i e h));
       midnight = λ u. ap (λ (b : Boundary). b .uncertainty) (s .next u);

@@ -9,7 +9,7 @@ use lib.Dec.{ltb}
 use lib.ListN.{length, getD, take, drop}
 use Rattle.wire.specs.Fields.{wrote}
 use Rattle.zone.specs.Zone.{Zone, resolve, dateAt}
-use Rattle.zone.specs.Units.{dayNs, mostNs, nearestReading, readingAt}
+use Rattle.zone.specs.Units.{dayNs, mostOffsetNs, nearestReading, readingAt}
 use Rattle.zone.specs.Answers.{uncertain}
 use Rattle.zone.specs.declared.Uncertainty.{Uncertainty}
 use Rattle.zone.specs.declared.Uncertainty.the-variants.{Exact, PublishedGranularity, PublishedBound, ProcessStart, AmbiguousLocalTime, NonexistentLocalTime}
@@ -46,8 +46,8 @@ abbrev pub edgeInstants : Zone → Rule → ℕ → List ℕ
 edgeInstants z r d = map (λ (e : Edge). e .at) (ruleEdges z r d)
 
 -- a time of a date is not in doubt: its instant is as precise as is published
-abbrev pub Clear : Zone → ℕ → ℕ → Type 0
-Clear z d x = (u : Uncertainty) → uncertain (resolve z (nearestReading (readingAt d x))) u ≡ u
+abbrev pub ClearTime : Zone → ℕ → ℕ → Type 0
+ClearTime z d x = (u : Uncertainty) → uncertain (resolve z (nearestReading (readingAt d x))) u ≡ u
 
 abbrev pub isExact : Uncertainty → Bool
 isExact Exact = true
@@ -58,9 +58,9 @@ isExact (AmbiguousLocalTime d) = false
 isExact (NonexistentLocalTime d) = false
 
 -- none of a date's boundaries is
-pub record Calm (z : Zone) (r : Rule) (d : ℕ) : Type 0 where
-  pub points : (i : ℕ) → i < length (r .points) → Clear z d (getD (r .points) i Reading.midnight .time)
-  pub midnight : Clear z (suc d) 0
+pub record ClearDate (z : Zone) (r : Rule) (d : ℕ) : Type 0 where
+  pub points : (i : ℕ) → i < length (r .points) → ClearTime z d (getD (r .points) i Reading.midnight .time)
+  pub midnight : ClearTime z (suc d) 0
 
 -- ---- what is left
 
@@ -89,15 +89,15 @@ rest s z v hi w = restWith v hi w (clip (w .cursor .0) hi (onDate s z (w .date .
 
 -- ---- where the walk stands
 
--- the first boundaries of an array are those of a date, and it is calm exactly where none is in doubt
-abbrev pub Kept : List ℕ → Zone → ℕ → ℕ → Bool → Governed → List ℕ → Type 0
-Kept s z d k calm Nothing a = calm ≡ true
-Kept s z d k calm (By p) a =
+-- the first boundaries of an array are those of a date, and it is clear exactly where none is in doubt
+abbrev pub EdgesKept : List ℕ → Zone → ℕ → ℕ → Bool → Governed → List ℕ → Type 0
+EdgesKept s z d k clear Nothing a = clear ≡ true
+EdgesKept s z d k clear (By p) a =
     ListedRule s p × (k ≤ length (ruleAt s p .points)) × (take (length (edgeInstants z (ruleAt s p) d)) a ≡ edgeInstants z (ruleAt s p) d)
-    × ((calm ≡ true) ↔ Calm z (ruleAt s p) d)
+    × ((clear ≡ true) ↔ ClearDate z (ruleAt s p) d)
 
-pub record Stands (s : List ℕ) (z : Zone) (w : Walk) (a : List ℕ) : Type 0 where
-  pub kept : Kept s z (w .date .0) (w .next) (w .calm) (w .governed) a
+pub record WalkStands (s : List ℕ) (z : Zone) (w : Walk) (a : List ℕ) : Type 0 where
+  pub kept : EdgesKept s z (w .date .0) (w .next) (w .clear) (w .governed) a
   pub forward : w .began .0 ≤ w .cursor .0
 
 -- ---- a piece: a span of a date, and what of it shows
@@ -122,8 +122,8 @@ abbrev pub heldIn : List ℕ → Zone → Piece → Held
 heldIn s z q = venueBy z (λ x. none) .body (ruleOf s q) (startEdge s q) (pointOf s q (q .point) .phase) (endEdge s q)
 
 -- between boundaries that are not in doubt
-abbrev pub calmIn : List ℕ → Piece → Held
-calmIn s q =
+abbrev pub clearIn : List ℕ → Piece → Held
+clearIn s q =
     record {
       start = record { at = q .start; uncertainty = published (ruleOf s q .uncertainty) };
       end = record { at = q .end; uncertainty = published (ruleOf s q .uncertainty) };
@@ -132,8 +132,8 @@ calmIn s q =
     }
 
 -- where the walk stands behind it
-abbrev pub behind : Piece → Walk
-behind q =
+abbrev pub afterPiece : Piece → Walk
+afterPiece q =
     record {
       turns = q .turns;
       began = q .began;
@@ -141,7 +141,7 @@ behind q =
       date = q .date;
       governed = By (q .rule);
       next = q .point + 1;
-      calm = q .calm;
+      clear = q .clear;
     }
 
 abbrev pub shownPart : List ℕ → Zone → Piece → Span Held
@@ -149,15 +149,15 @@ shownPart s z q = record { from = q .from .0; to = q .to .0; body = heldIn s z q
 
 -- a date's spans are within 16 hours of it
 abbrev pub spanNs : ℕ
-spanNs = dayNs + mostNs + mostNs
+spanNs = dayNs + mostOffsetNs + mostOffsetNs
 
--- a rule and its point stand where a piece says, its span is not long, and where it is calm it holds what the rule says
-pub record Fits (s : List ℕ) (z : Zone) (q : Piece) : Type 0 where
+-- a rule and its point stand where a piece says, its span is not long, and where it is clear it holds what the rule says
+pub record PieceFits (s : List ℕ) (z : Zone) (q : Piece) : Type 0 where
   pub listed : ListedRule s (q .rule)
   pub point : q .point < length (ruleOf s q .points)
   pub shows : q .from .0 < q .to .0
   pub short : q .end .0 ≤ q .start .0 + spanNs
-  pub calm : q .calm ≡ true → heldIn s z q ≡ calmIn s q
+  pub clear : q .clear ≡ true → heldIn s z q ≡ clearIn s q
 
 -- of the spans between n + 1 boundaries, r is the first from the k-th on that shows between the cursor and hi; n where none does
 pub record Showing (a : List ℕ) (k n cursor hi r : ℕ) : Type 0 where
@@ -169,7 +169,7 @@ pub record Showing (a : List ℕ) (k n cursor hi r : ℕ) : Type 0 where
 -- ---- a turn begins
 
 pub record Begun (s : List ℕ) (z : Zone) (v : Venue Held) (turns cursor : ℕ) (w : Walk) (a : List ℕ) : Type 0 where
-  pub stands : Stands s z w a
+  pub stands : WalkStands s z w a
   pub all : (hi : ℕ) → rest s z v hi w ≡ walk v hi (suc turns) cursor
 
 -- the array of boundaries after it: as it was where no rule governs the date
@@ -191,7 +191,7 @@ pub record BegunAs (s : List ℕ) (z : Zone) (rules : List ℕ) (turns cursor : 
 -- ---- a step of the walk: a piece comes first, and the walk stands behind it, with as many turns to go
 
 pub record Comes (s : List ℕ) (z : Zone) (v : Venue Held) (hi : ℕ) (w : Walk) (q : Piece) (a : List ℕ) : Type 0 where
-  pub first : rest s z v hi w ≡ shownPart s z q ∷ rest s z v hi (behind q)
-  pub fits : Fits s z q
-  pub stands : Stands s z (behind q) a
+  pub first : rest s z v hi w ≡ shownPart s z q ∷ rest s z v hi (afterPiece q)
+  pub fits : PieceFits s z q
+  pub stands : WalkStands s z (afterPiece q) a
   pub turns : q .turns ≡ w .turns

@@ -7,10 +7,10 @@ mod turn;
 use calendar::Day;
 use day::Governed;
 use records::MOST_POINTS;
-pub use step::behind;
-pub use step::here;
+pub use step::after_piece;
+pub use step::next_piece;
+pub use step::next_turn;
 pub use step::segment;
-pub use step::turn_on;
 pub use turn::begin;
 use zone::Instant;
 
@@ -29,11 +29,11 @@ pub struct Walk {
     pub date: Day,
     pub governed: Governed,
     pub next: usize,
-    pub calm: bool,
+    pub clear: bool,
 }
 
 // What shows of a date's span, from `from` to before `to`; and the span, from `start` to before `end`, by a point of a rule. Where it is
-// calm, neither boundary is in doubt: both are as precise as the rule says. The walk goes on from `turns` and `began`.
+// clear, neither boundary is in doubt: both are as precise as the rule says. The walk goes on from `turns` and `began`.
 pub struct Piece {
     pub from: Instant,
     pub to: Instant,
@@ -42,19 +42,19 @@ pub struct Piece {
     pub date: Day,
     pub rule: u32,
     pub point: usize,
-    pub calm: bool,
+    pub clear: bool,
     pub turns: u32,
     pub began: Instant,
 }
 
 // The next piece of the date at hand.
-pub enum Pulled {
+pub enum NextPiece {
     Done,
     Next(Piece),
 }
 
 // The next turn of a walk.
-pub enum Turned {
+pub enum NextTurn {
     Done,
     On(Walk),
 }

@@ -8,23 +8,23 @@ ghost use lib.ListN.{length};
 ghost use Rattle.zone.specs.Zone.{zoneOf};
 ghost use Rattle.zone.specs.Answers.{Valid};
 ghost use Rattle.records.specs.Records.{ruleAt};
-ghost use Rattle.day.specs.Governing.{governing as Governing·governing};
+ghost use Rattle.day.specs.Governing.{governingRule};
 ghost use Rattle.day.specs.Days.{venueBy};
 ghost use Rattle.day.specs.Meaning.{heldBy};
 ghost use Rattle.venue.specs.Reading.{ListedRules};
-ghost use Rattle.walk.specs.Walking.{onward as Walking·onward, behind as Walking·behind, Fits, heldIn, Showing};
-ghost use Rattle.walk.specs.Looking.{Holds, Looked, Shown, Leads, LeadsAs};
+ghost use Rattle.walk.specs.Walking.{onward as Walking·onward, afterPiece, PieceFits, heldIn, Showing};
+ghost use Rattle.walk.specs.Looking.{WalkHolds, IsNextPiece, DateSpent, IsNextTurn, TurnSets};
 ghost use Rattle.day.specs.Keeping.{Keeps};
 use crate::MOST_BOUNDARIES;
+use crate::NextPiece;
+use crate::NextTurn;
 use crate::Piece;
-use crate::Pulled;
-use crate::Turned;
 use crate::Walk;
 use crate::turn::begin;
 use calendar::Day;
+use day::DaySegment;
 use day::Governed;
-use day::MOST_KEPT;
-use day::Segment;
+use day::NEAR_RULES_LENGTH;
 use day::midnight_after;
 use spans::earlier;
 use spans::later;
@@ -54,7 +54,7 @@ fn showing(edges: &[u64], k: usize, n: usize, cursor: Instant, hi: Instant) -> u
 
 // Where a turn leads that shows no more spans.
 fn onward(
-    first: u32,
+    offset0: u32,
     ats: &[u64],
     offsets: &[u32],
     hi: Instant,
@@ -62,38 +62,38 @@ fn onward(
     cursor: Instant,
     date: Day,
 ) -> Instant
-    requires { ⌜ Valid first (now ats) (now offsets) ⌝ }
+    requires { ⌜ Valid offset0 (now ats) (now offsets) ⌝ }
     ensures { λ r. ⌜ r .0
-        ≡ Walking·onward (venueBy (zoneOf first (now (ats .entry)) (now (offsets .entry))) (λ x. none)) (hi .0) (began .0) (cursor .0) (date .0) ⌝ }
+        ≡ Walking·onward (venueBy (zoneOf offset0 (now (ats .entry)) (now (offsets .entry))) (λ x. none)) (hi .0) (began .0) (cursor .0) (date .0) ⌝ }
 {
     if began.0 < cursor.0 {
         return cursor;
     }
-    let midnight = midnight_after(first, ats, offsets, date, Uncertainty::Exact);
+    let midnight = midnight_after(offset0, ats, offsets, date, Uncertainty::Exact);
     let at = midnight.at;
     Instant(earlier(hi.0, at.0))
 }
 
 // The first span of the date at hand that shows; `Done` where none does.
-pub fn here(book: &[u8], edges: &[u64; MOST_BOUNDARIES], hi: Instant, w: Walk) -> Pulled
-    requires { ⌜ Holds (now book) w ⌝ }
-    ensures { λ r. ⌜ Looked (now (book .entry)) (now (edges .entry)) (hi .0) w r ⌝ }
+pub fn next_piece(book: &[u8], edges: &[u64; MOST_BOUNDARIES], hi: Instant, w: Walk) -> NextPiece
+    requires { ⌜ WalkHolds (now book) w ⌝ }
+    ensures { λ r. ⌜ IsNextPiece (now (book .entry)) (now (edges .entry)) (hi .0) w r ⌝ }
 {
     let governed = w.governed;
     match governed {
-        Governed::Nothing => Pulled::Done,
+        Governed::Nothing => NextPiece::Done,
         Governed::By(rule) => {
             let cursor = w.cursor;
             let n = rule_points(book, rule as usize);
             let k = showing(edges, w.next, n, cursor, hi);
             if n <= k {
-                return Pulled::Done;
+                return NextPiece::Done;
             }
             let start = edges[k];
             let end = edges[k + 1];
             let date = w.date;
             let began = w.began;
-            Pulled::Next(Piece {
+            NextPiece::Next(Piece {
                 from: Instant(later(cursor.0, start)),
                 to: Instant(earlier(hi.0, end)),
                 start: Instant(start),
@@ -101,7 +101,7 @@ pub fn here(book: &[u8], edges: &[u64; MOST_BOUNDARIES], hi: Instant, w: Walk) -
                 date,
                 rule,
                 point: k,
-                calm: w.calm,
+                clear: w.clear,
                 turns: w.turns,
                 began,
             })
@@ -110,37 +110,37 @@ pub fn here(book: &[u8], edges: &[u64; MOST_BOUNDARIES], hi: Instant, w: Walk) -
 }
 
 // The next turn of a walk whose date shows no more.
-pub fn turn_on(
+pub fn next_turn(
     book: &[u8],
-    first: u32,
+    offset0: u32,
     ats: &[u64],
     offsets: &[u32],
     rules: &[u32],
-    kept: &mut [u32; MOST_KEPT],
+    kept: &mut [u32; NEAR_RULES_LENGTH],
     edges: &mut [u64; MOST_BOUNDARIES],
     hi: Instant,
     w: Walk,
-) -> Turned
-    requires { ⌜ Valid first (now ats) (now offsets) × ListedRules (now book) (now rules) × Keeps (now book) (now rules) (now kept)
-        × Shown (now book) (zoneOf first (now ats) (now offsets)) (hi .0) w ⌝ }
-    ensures { λ r. ⌜ Leads (now (book .entry)) (zoneOf first (now (ats .entry)) (now (offsets .entry)))
-        (venueBy (zoneOf first (now (ats .entry)) (now (offsets .entry)))
-        (Governing·governing (map (ruleAt (now (book .entry))) (now (rules .entry))))) (hi .0) w r (now (edges .exit))
+) -> NextTurn
+    requires { ⌜ Valid offset0 (now ats) (now offsets) × ListedRules (now book) (now rules) × Keeps (now book) (now rules) (now kept)
+        × DateSpent (now book) (zoneOf offset0 (now ats) (now offsets)) (hi .0) w ⌝ }
+    ensures { λ r. ⌜ IsNextTurn (now (book .entry)) (zoneOf offset0 (now (ats .entry)) (now (offsets .entry)))
+        (venueBy (zoneOf offset0 (now (ats .entry)) (now (offsets .entry)))
+        (governingRule (map (ruleAt (now (book .entry))) (now (rules .entry))))) (hi .0) w r (now (edges .exit))
         × Keeps (now (book .entry)) (now (rules .entry)) (now (kept .exit))
-        × LeadsAs (now (book .entry)) (zoneOf first (now (ats .entry)) (now (offsets .entry))) (now (rules .entry)) (hi .0) w
+        × TurnSets (now (book .entry)) (zoneOf offset0 (now (ats .entry)) (now (offsets .entry))) (now (rules .entry)) (hi .0) w
         (now (edges .entry)) (now (kept .entry)) r (now (edges .exit)) (now (kept .exit)) ⌝ }
 {
     let turns = w.turns;
     let began = w.began;
     let cursor = w.cursor;
     let date = w.date;
-    let next = onward(first, ats, offsets, hi, began, cursor, date);
+    let next = onward(offset0, ats, offsets, hi, began, cursor, date);
     if (next.0 <= began.0) | (turns == 0) {
-        return Turned::Done;
+        return NextTurn::Done;
     }
-    Turned::On(begin(
+    NextTurn::On(begin(
         book,
-        first,
+        offset0,
         ats,
         offsets,
         rules,
@@ -152,9 +152,9 @@ pub fn turn_on(
 }
 
 // Where the walk stands behind a piece.
-pub fn behind(q: Piece) -> Walk
+pub fn after_piece(q: Piece) -> Walk
     requires { ⌜ q .point < 2 ^ 64 - 1 ⌝ }
-    ensures { λ r. ⌜ r ≡ Walking·behind q ⌝ }
+    ensures { λ r. ⌜ r ≡ afterPiece q ⌝ }
 {
     let began = q.began;
     let to = q.to;
@@ -166,21 +166,21 @@ pub fn behind(q: Piece) -> Walk
         date,
         governed: Governed::By(q.rule),
         next: q.point + 1,
-        calm: q.calm,
+        clear: q.clear,
     }
 }
 
 // The whole span that a piece is part of.
-pub fn segment(book: &[u8], first: u32, ats: &[u64], offsets: &[u32], q: Piece) -> Segment
-    requires { ⌜ Valid first (now ats) (now offsets) × Fits (now book) (zoneOf first (now ats) (now offsets)) q ⌝ }
-    ensures { λ r. ⌜ (heldBy (now (book .entry)) r ≡ heldIn (now (book .entry)) (zoneOf first (now (ats .entry)) (now (offsets .entry))) q) × (r .rule ≡ q .rule) ⌝ }
+pub fn segment(book: &[u8], offset0: u32, ats: &[u64], offsets: &[u32], q: Piece) -> DaySegment
+    requires { ⌜ Valid offset0 (now ats) (now offsets) × PieceFits (now book) (zoneOf offset0 (now ats) (now offsets)) q ⌝ }
+    ensures { λ r. ⌜ (heldBy (now (book .entry)) r ≡ heldIn (now (book .entry)) (zoneOf offset0 (now (ats .entry)) (now (offsets .entry))) q) × (r .rule ≡ q .rule) ⌝ }
 {
     let place = q.rule as usize;
     let k = q.point;
     let date = q.date;
     let published = rule_uncertainty(book, place);
     let own = to_utc_at(
-        first,
+        offset0,
         ats,
         offsets,
         date,
@@ -189,7 +189,7 @@ pub fn segment(book: &[u8], first: u32, ats: &[u64], offsets: &[u32], q: Piece) 
     );
     let next = if k + 1 < rule_points(book, place) {
         to_utc_at(
-            first,
+            offset0,
             ats,
             offsets,
             date,
@@ -197,13 +197,13 @@ pub fn segment(book: &[u8], first: u32, ats: &[u64], offsets: &[u32], q: Piece) 
             published,
         )
     } else {
-        midnight_after(first, ats, offsets, date, published)
+        midnight_after(offset0, ats, offsets, date, published)
     };
     let start = q.start;
     let end = q.end;
     let before = own.uncertainty;
     let behind = next.uncertainty;
-    Segment {
+    DaySegment {
         start: Boundary {
             at: start,
             uncertainty: before,

@@ -1,4 +1,4 @@
--- The record of a piece, calm or in doubt. Assumes nothing.
+-- The record of a piece, clear or in doubt. Assumes nothing.
 use mathlib.Core.Path.{_≡_, refl, sym, ap, ap₂, _∙_}
 use mathlib.Core.Bool.{Bool, true, cond}
 use mathlib.Core.List.{List}
@@ -12,9 +12,9 @@ use Rattle.zone.specs.declared.Uncertainty.the-variants.{Exact, PublishedGranul
 use Rattle.venue.specs.Reading.{published}
 use Rattle.day.specs.Days.{Held, whole as wholeOf}
 use Rattle.answer.specs.declared.Phase.{Phase}
-use Rattle.walk.specs.Walking.{ruleOf, pointOf, heldIn, calmIn, Fits}
+use Rattle.walk.specs.Walking.{ruleOf, pointOf, heldIn, clearIn, PieceFits}
 use Rattle.walk.specs.declared.Piece.{Piece}
-use Rattle.tell.specs.Shown.{headOf}
+use Rattle.span_records.specs.Shown.{headOf}
 use Rattle.walk_records.specs.Private.{pieceHead}
 
 -- the wider of an uncertainty and itself
@@ -32,13 +32,13 @@ alike s q u p = record { start = record { at = q .start; uncertainty = u }; end 
 
 module _ (s : List ℕ) (z : Zone) (q : Piece) (n : ℕ) {head : Phase} where
   -- all three uncertainties are the rule's
-  pub calm-head : Fits s z q → q .calm ≡ true → (u : Uncertainty) (p : ℕ) → u ≡ published (ruleOf s q .uncertainty) → p ≡ pointOf s q (q .point) .phase
+  pub clear-head : PieceFits s z q → q .clear ≡ true → (u : Uncertainty) (p : ℕ) → u ≡ published (ruleOf s q .uncertainty) → p ≡ pointOf s q (q .point) .phase
       → head ≡ headOf (q .from .0) (q .to .0) (alike s q u p) u n → head ≡ pieceHead s z q n
-  calm-head f c u p e g h =
+  clear-head f c u p e g h =
       h
       ∙ ap₂ (λ (v : Uncertainty) (x : ℕ). headOf (q .from .0) (q .to .0) (alike s q v x) v n) e g
-      ∙ ap (λ (v : Uncertainty). headOf (q .from .0) (q .to .0) (calmIn s q) v n) (sym (widest-same (published (ruleOf s q .uncertainty))))
-      ∙ ap (λ (x : Held). headOf (q .from .0) (q .to .0) x (wholeOf x) n) (sym (f .calm c))
+      ∙ ap (λ (v : Uncertainty). headOf (q .from .0) (q .to .0) (clearIn s q) v n) (sym (widest-same (published (ruleOf s q .uncertainty))))
+      ∙ ap (λ (x : Held). headOf (q .from .0) (q .to .0) x (wholeOf x) n) (sym (f .clear c))
 
   pub span-head : {h : Held} → h ≡ heldIn s z q → {u : Uncertainty} → u ≡ wholeOf h → head ≡ headOf (q .from .0) (q .to .0) h u n
       → head ≡ pieceHead s z q n

@@ -15,11 +15,11 @@ use Rattle.answer.specs.Forms.{phase, encode, encodeAll, phaseSize, eventSize}
 use Rattle.answer.specs.Meaning.{phaseOf}
 use Rattle.answer.specs.declared.Phase.{Phase}
 use Rattle.answer.proofs.Amended.{front-stands}
-use Rattle.tell.specs.Shown.{Shown}
-use Rattle.tell.proofs.Trailing.{events-length}
+use Rattle.span_records.specs.Shown.{Shown}
+use Rattle.span_records.proofs.Trailing.{events-length}
 use Rattle.joining.specs.Joining.{phases}
 use Rattle.walk_records.specs.Walked.{phaseForms}
-use Rattle.joining.specs.Amending.{joinedHead}
+use Rattle.joining.specs.Amending.{mergedPhase}
 use Rattle.joining.specs.declared.Last.{Last}
 use Rattle.joining.specs.declared.Last.the-variants.{Nothing, Shows}
 use Rattle.walk_records.proofs.Sizes.{headBytes, eventBytes, bytesOf, head-length, bytes-cons, both-events, from-more, spansMost}
@@ -86,7 +86,7 @@ abbrev pub standAt : Bool → ℕ → ℕ → ℕ
 standAt joining stand place = cond joining stand place
 
 abbrev pub headBy : Bool → Phase → Phase → Phase
-headBy joining head new = cond joining (joinedHead head new) new
+headBy joining head new = cond joining (mergedPhase head new) new
 
 -- what the code asks for while it writes the span q, and what that leaves
 pub record Goes (room : List ℕ) (at : ℕ) (target now : List ℕ) (stand : ℕ) (head : Phase) (place : ℕ) (q : Span Shown) (qs : List (Span Shown))
@@ -166,8 +166,8 @@ module _ {room : List ℕ} {at : ℕ} {target now : List ℕ} {stand : ℕ} {hea
     both-rest : target ≡ o .done ++ bytesOf (joinFrom phases both qs)
     both-rest = o .rest ∙ ap (λ (x : List (Span Shown)). o .done ++ bytesOf x) (amend phases [] s q qs (joins-is s q (o .says) e))
 
-    both-says : joinedHead head (headAt q) ≡ headAt both
-    both-says = ap (λ (x : Phase). joinedHead x (headAt q)) (o .says) ∙ both-heads s q
+    both-says : mergedPhase head (headAt q) ≡ headAt both
+    both-says = ap (λ (x : Phase). mergedPhase x (headAt q)) (o .says) ∙ both-heads s q
 
     so-far : Put room at (o .done ++ (headBytes s ++ eventBytes s)) (w .size) now place
     so-far = subst (λ (x : List ℕ). Put room at x (w .size) now place) (o .parts) (w .put)
@@ -181,7 +181,7 @@ module _ {room : List ℕ} {at : ℕ} {target now : List ℕ} {stand : ℕ} {hea
         let n = length-append (s .body .events) (q .body .events) in
         omega (arith, so-long, from-least both qs, w .fits, w .put .behind, w .put .kept)
 
-    join-ready : {now1 : List ℕ} {end : ℕ} → Put now place (eventBytes q) (eventSize * many q) now1 end → Amends now1 stand (joinedHead head (headAt q))
+    join-ready : {now1 : List ℕ} {end : ℕ} → Put now place (eventBytes q) (eventSize * many q) now1 end → Amends now1 stand (mergedPhase head (headAt q))
     join-ready {now1} y =
         let inside : Inside stand phaseSize now1 = omega (arith, so-long, join-room, o .stands, w .put .behind, y .kept) in
         record {
@@ -198,8 +198,8 @@ module _ {room : List ℕ} {at : ℕ} {target now : List ℕ} {stand : ℕ} {hea
         }
 
     join-write : {now1 now2 : List ℕ} {end : ℕ} → Put now place (eventBytes q) (eventSize * many q) now1 end
-        → now2 ≡ wrote now1 stand (encode (phase (phaseOf (joinedHead head (headAt q)))))
-        → Writing room at target now2 true stand (joinedHead head (headAt q)) end qs
+        → now2 ≡ wrote now1 stand (encode (phase (phaseOf (mergedPhase head (headAt q)))))
+        → Writing room at target now2 true stand (mergedPhase head (headAt q)) end qs
     join-write {now1} y z =
         let h = head-length (headAt both) ∙ sym (head-length (headAt s)) in
         record {

@@ -12,25 +12,25 @@ use Rattle.records.specs.Records.{Rule, Event, ruleAt, eventAt}
 use Rattle.venue.specs.Filled.{Ready}
 use Rattle.spans.specs.Spans.{Span, joined}
 use Rattle.spans.specs.Timeline.{Edge, turns}
-use Rattle.day.specs.Governing.{governing}
+use Rattle.day.specs.Governing.{governingRule}
 use Rattle.day.specs.Days.{Held, venueBy}
 use Rattle.events.specs.Happenings.{found, mostInSpan}
 use Rattle.events.proofs.Order.{length-sorted}
 use Rattle.events.proofs.Few.{few}
-use Rattle.walk.specs.Walking.{ruleOf, pointOf, endEdge, shownPart, behind, Fits, rest, Begun, Comes}
-use Rattle.walk.specs.Looking.{Leads, LeadsOn}
+use Rattle.walk.specs.Walking.{ruleOf, pointOf, endEdge, shownPart, afterPiece, PieceFits, rest, Begun, Comes}
+use Rattle.walk.specs.Looking.{IsNextTurn, TurnsOn}
 use Rattle.walk.specs.declared.Walk.{Walk}
 use Rattle.walk.specs.declared.Piece.{Piece}
-use Rattle.walk.specs.declared.Turned.{Turned}
-use Rattle.walk.specs.declared.Turned.the-variants.{Done as Turned·Done, On}
+use Rattle.walk.specs.declared.NextTurn.{NextTurn}
+use Rattle.walk.specs.declared.NextTurn.the-variants.{Done as NextTurn·Done, On}
 use Rattle.walk.proofs.Laws.{rest-length, rules-few}
 use Rattle.walk.proofs.Going as Going
 use Rattle.walk.proofs.Going.{come-left, turn-left, turned, gone}
-use Rattle.tell.specs.Shown.{Shown}
+use Rattle.span_records.specs.Shown.{Shown}
 use Rattle.answer.specs.Forms.{phaseSize, eventSize}
 use Rattle.joining.specs.Joining.{phases}
 use Rattle.walk_records.specs.Walked.{showsSpan, walkSpans}
-use Rattle.joining.specs.Amending.{joinsLast}
+use Rattle.joining.specs.Amending.{isJoinable}
 use Rattle.joining.specs.declared.Last.{Last}
 use Rattle.joining.specs.declared.Last.the-variants.{Shows}
 use Rattle.joining.proofs.Laws.{many, lastAt, joinsNext}
@@ -41,7 +41,7 @@ module _ (s : List ℕ) (first : ℕ) (ats offsets rules events : List ℕ) (hi 
   z = zoneOf first ats offsets
 
   abbrev pub g : ℕ → Option Rule
-  g = governing (map (ruleAt s) rules)
+  g = governingRule (map (ruleAt s) rules)
 
   abbrev pub es : List Event
   es = map (eventAt s) events
@@ -61,7 +61,7 @@ module _ (s : List ℕ) (first : ℕ) (ats offsets rules events : List ℕ) (hi 
   Coming w q a = Comes s z (venueBy z g) hi w q a
 
   abbrev pub Turning : Walk → Walk → List ℕ → Type 0
-  Turning w w′ a = LeadsOn s z (venueBy z g) hi w w′ a
+  Turning w w′ a = TurnsOn s z (venueBy z g) hi w w′ a
 
   pub end-at : (q : Piece) → endEdge s q .at ≡ q .end .0
   end-at q = go (ltb (q .point + 1) (length (ruleOf s q .points))) _ _ refl refl
@@ -74,10 +74,10 @@ module _ (s : List ℕ) (first : ℕ) (ats offsets rules events : List ℕ) (hi 
   many-found q = length-sorted (found z es (q .start .0) (endEdge s q .at)) ∙ ap (λ (t : ℕ). length (found z es (q .start .0) t)) (end-at q)
 
   module _ (r : Ready s first ats offsets rules events) where
-    pub found-few : (q : Piece) → Fits s z q → length (found z es (q .start .0) (q .end .0)) ≤ mostInSpan
+    pub found-few : (q : Piece) → PieceFits s z q → length (found z es (q .start .0) (q .end .0)) ≤ mostInSpan
     found-few q f = few s first ats offsets events (r .zone) (r .events-listed) (r .few) (q .start .0) (q .end .0) (f .short)
 
-    pub many-few : (q : Piece) → Fits s z q → many (spanOf q) ≤ mostInSpan
+    pub many-few : (q : Piece) → PieceFits s z q → many (spanOf q) ≤ mostInSpan
     many-few q f = omega (arith, many-found q, found-few q f)
 
     module _ {lo : ℕ} {w : Walk} {a : List ℕ} (b : Begun s z (venueBy z g) (turns - 1) lo w a) where
@@ -94,14 +94,14 @@ module _ (s : List ℕ) (first : ℕ) (ats offsets rules events : List ℕ) (hi 
     last-read q a b = ap₂ (Shows (q .to)) a b
 
     pub joins-read : (q : Piece) {p e : ℕ} → p ≡ pointOf s q (q .point) .phase → e ≡ ruleOf s q .evidence → (l : Last) {b : Bool}
-        → b ≡ joinsLast l (q .from .0) p e → b ≡ joinsNext l (spanOf q)
-    joins-read q a c l j = j ∙ ap₂ (joinsLast l (q .from .0)) a c
+        → b ≡ isJoinable l (q .from .0) p e → b ≡ joinsNext l (spanOf q)
+    joins-read q a c l j = j ∙ ap₂ (isJoinable l (q .from .0)) a c
 
     module _ {w : Walk} {q : Piece} {a : List ℕ} (c : Coming w q a) {p e : ℕ} (phase-is : p ≡ pointOf s q (q .point) .phase)
         (evidence-is : e ≡ ruleOf s q .evidence) where
-      pub sized : {total size : ℕ} {last : Last} → Sizing total last size (left w) → {b : Bool} → b ≡ joinsLast last (q .from .0) p e
+      pub sized : {total size : ℕ} {last : Last} → Sizing total last size (left w) → {b : Bool} → b ≡ isJoinable last (q .from .0) p e
           → {n m k : ℕ} → n ≡ cond b 0 phaseSize
-          → m ≡ length (found z es (q .start .0) (q .end .0)) → k ≡ size + n + eventSize * m → Sizing total (Shows (q .to) p e) k (left (behind q))
+          → m ≡ length (found z es (q .start .0) (q .end .0)) → k ≡ size + n + eventSize * m → Sizing total (Shows (q .to) p e) k (left (afterPiece q))
       sized {total} {size} {last} i {b} j {n} {m} {k} x y t =
           size-one (subst (λ (l : List (Span Shown)). Sizing total last size l) (come-left c (showsSpan z es)) i) (many-few q (c .fits))
           (t ∙ ap₂ (λ (u v : ℕ). size + u + eventSize * v) (x ∙ ap (λ (u : Bool). cond u 0 phaseSize) (joins-read q phase-is evidence-is last j)) (y ∙ sym (many-found q)))
@@ -109,10 +109,10 @@ module _ (s : List ℕ) (first : ℕ) (ats offsets rules events : List ℕ) (hi 
 
   -- ---- the walk is done, or goes on
 
-  pub done-left : (w : Walk) (t : Turned) (a : List ℕ) → Leads s z (venueBy z g) hi w t a → t ≡ Turned·Done → left w ≡ []
+  pub done-left : (w : Walk) (t : NextTurn) (a : List ℕ) → IsNextTurn s z (venueBy z g) hi w t a → t ≡ NextTurn·Done → left w ≡ []
   done-left w t a l e = ap (map (showsSpan z es)) (gone s z (venueBy z g) hi w t a l e)
 
-  pub turning : (w : Walk) (t : Turned) (a : List ℕ) → Leads s z (venueBy z g) hi w t a → {w′ : Walk} → t ≡ On w′ → Turning w w′ a
+  pub turning : (w : Walk) (t : NextTurn) (a : List ℕ) → IsNextTurn s z (venueBy z g) hi w t a → {w′ : Walk} → t ≡ On w′ → Turning w w′ a
   turning w t a l e = turned s z (venueBy z g) hi w t a l e
 
   module _ {total size : ℕ} {last : Last} {w w′ : Walk} (i : Sizing total last size (left w)) where

@@ -12,8 +12,8 @@ use Rattle.answer.specs.Forms.{Form, phase, encode, encodeAll, allFields, phase
 use Rattle.answer.specs.Meaning.{phaseOf}
 use Rattle.answer.specs.declared.Phase.{Phase}
 use Rattle.answer.proofs.Several.{encode-append}
-use Rattle.tell.specs.Shown.{Shown, eventForm}
-use Rattle.tell.proofs.Trailing.{events-length}
+use Rattle.span_records.specs.Shown.{Shown, eventForm}
+use Rattle.span_records.proofs.Trailing.{events-length}
 use Rattle.events.specs.Happenings.{mostInSpan}
 use Rattle.records.specs.Limits.{base}
 use Rattle.spans.specs.Timeline.{turns}

@@ -13,18 +13,18 @@ use Rattle.venue.specs.Filled.{Ready}
 use Rattle.spans.specs.Spans.{Span, joined}
 use Rattle.day.specs.Days.{venueBy}
 use Rattle.events.specs.Happenings.{found}
-use Rattle.walk.specs.Walking.{ruleOf, pointOf, behind, Fits, Begun}
+use Rattle.walk.specs.Walking.{ruleOf, pointOf, afterPiece, PieceFits, Begun}
 use Rattle.walk.specs.declared.Walk.{Walk}
 use Rattle.walk.specs.declared.Piece.{Piece}
 use Rattle.answer.specs.Forms.{phase, encode, encodeAll, phaseSize, eventSize}
 use Rattle.answer.specs.Meaning.{phaseOf}
 use Rattle.answer.specs.declared.Phase.{Phase}
-use Rattle.tell.specs.Shown.{Shown, Trails}
-use Rattle.tell.specs.declared.Trail.{Trail}
+use Rattle.span_records.specs.Shown.{Shown, Trails}
+use Rattle.span_records.specs.declared.Trail.{Trail}
 use Rattle.walk.proofs.Going.{come-left, turn-left}
 use Rattle.joining.specs.Joining.{phases}
 use Rattle.walk_records.specs.Walked.{showsSpan, phaseForms, walkSpans}
-use Rattle.joining.specs.Amending.{joinsLast, joinedHead}
+use Rattle.joining.specs.Amending.{isJoinable, mergedPhase}
 use Rattle.joining.specs.declared.Last.{Last}
 use Rattle.joining.proofs.Laws.{many, headAt, joinsNext}
 use Rattle.walk_records.proofs.Sizes.{eventBytes, bytesOf}
@@ -60,14 +60,14 @@ module _ (s : List ℕ) (first : ℕ) (ats offsets rules events : List ℕ) (hi 
 
   -- one that fits, and its span is written behind the others or joins the last
   pub record Taken (room : List ℕ) (at : ℕ) (target now : List ℕ) (stand : ℕ) (head : Phase) (place : ℕ) (q : Piece) (joining : Bool) : Type 0 where
-    pub fits : Fits s z q
-    pub goes : Goes room at target now stand head place (spanOf q) (left (behind q)) joining
+    pub fits : PieceFits s z q
+    pub goes : Goes room at target now stand head place (spanOf q) (left (afterPiece q)) joining
 
   pub taken : Ready s first ats offsets rules events → {w : Walk} {q : Piece} {a : List ℕ} → Coming w q a → {p e : ℕ}
       → p ≡ pointOf s q (q .point) .phase → e ≡ ruleOf s q .evidence
       → {room : List ℕ} {at : ℕ} {target now : List ℕ} {begun : Bool} {stand : ℕ} {head : Phase} {place : ℕ}
       → Writing room at target now begun stand head place (left w)
-      → {l : Last} → l ≡ shows begun head → {b : Bool} → b ≡ joinsLast l (q .from .0) p e → Taken room at target now stand head place q b
+      → {l : Last} → l ≡ shows begun head → {b : Bool} → b ≡ isJoinable l (q .from .0) p e → Taken room at target now stand head place q b
   taken r {w} {q} c f d {room} {at} {target} {now} {begun} {stand} {head} {place} i {l} k {b} j =
       record {
         fits = c .fits;
@@ -128,16 +128,16 @@ module _ {s : List ℕ} {first : ℕ} {ats offsets rules events : List ℕ} {hi 
     its-room = omega (arith, its-many, t .goes .space)
 
     module _ {now1 : List ℕ} {trail : Trail} (y : Trails zone (es s first ats offsets rules events hi) (q .start .0) (q .end .0) now front now1 trail)
-        {new : Phase} (u : new ≡ pieceHead s zone q (trail .count)) {stand′ : ℕ} (v : stand′ ≡ cond b stand place) {head′ : Phase} (d : head′ ≡ cond b (joinedHead head new) new) where
+        {new : Phase} (u : new ≡ pieceHead s zone q (trail .count)) {stand′ : ℕ} (v : stand′ ≡ cond b stand place) {head′ : Phase} (d : head′ ≡ cond b (mergedPhase head new) new) where
       its-events : Put now (cond b place (place + phaseSize)) (eventBytes own) (eventSize * many own) now1 (trail .behind)
       its-events = rw (its-many, Pieces.end-at s first ats offsets rules events hi q, ← x) (y .put)
 
-      its-head : head′ ≡ cond b (joinedHead head (headAt own)) (headAt own)
-      its-head = d ∙ ap (λ (h : Phase). cond b (joinedHead head h) h) (u ∙ ap (pieceHead s zone q) (y .count ∙ sym its-many))
+      its-head : head′ ≡ cond b (mergedPhase head (headAt own)) (headAt own)
+      its-head = d ∙ ap (λ (h : Phase). cond b (mergedPhase head h) h) (u ∙ ap (pieceHead s zone q) (y .count ∙ sym its-many))
 
       pub its-record : Recorded now1 stand′ b head′
       its-record = rw (v, its-head) (t .goes .ready its-events)
 
       pub written : {now2 : List ℕ} → now2 ≡ wrote now1 stand′ (encode (phase (phaseOf head′)))
-          → Writing room at target now2 true stand′ head′ (trail .behind) (left s first ats offsets rules events hi (behind q))
+          → Writing room at target now2 true stand′ head′ (trail .behind) (left s first ats offsets rules events hi (afterPiece q))
       written o = rw (v, its-head) (t .goes .next its-events (rw (← v, ← its-head) o))

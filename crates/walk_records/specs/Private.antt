@@ -9,7 +9,7 @@ use Rattle.walk.specs.Walking.{heldIn}
 use Rattle.walk.specs.declared.Piece.{Piece}
 use Rattle.answer.specs.Amending.{Amends}
 use Rattle.answer.specs.declared.Phase.{Phase}
-use Rattle.tell.specs.Shown.{headOf}
+use Rattle.span_records.specs.Shown.{headOf}
 use Rattle.answer.specs.Forms.{phaseSize}
 
 -- a record amends one that stands there, or there is room for it

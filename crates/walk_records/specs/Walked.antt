@@ -6,10 +6,10 @@ use Rattle.zone.specs.Zone.{Zone, zoneOf}
 use Rattle.records.specs.Records.{Rule, Event, ruleAt, eventAt}
 use Rattle.spans.specs.Spans.{Span, joined}
 use Rattle.spans.specs.Timeline.{walk, turns}
-use Rattle.day.specs.Governing.{governing}
+use Rattle.day.specs.Governing.{governingRule}
 use Rattle.day.specs.Days.{Held, venueBy}
 use Rattle.answer.specs.Forms.{Form}
-use Rattle.tell.specs.Shown.{Shown, shown, shownForms}
+use Rattle.span_records.specs.Shown.{Shown, shown, shownForms}
 use Rattle.joining.specs.Joining.{phases}
 
 -- a span of a date, with what it shows
@@ -28,4 +28,4 @@ walkSpans z g es lo hi = joined phases (map (showsSpan z es) (walk (venueBy z g)
 -- its records, by places in the book
 abbrev pub walkForms : List ℕ → ℕ → List ℕ → List ℕ → List ℕ → List ℕ → ℕ → ℕ → List Form
 walkForms s first ats offsets rules events lo hi =
-    phaseForms (walkSpans (zoneOf first ats offsets) (governing (map (ruleAt s) rules)) (map (eventAt s) events) lo hi)
+    phaseForms (walkSpans (zoneOf first ats offsets) (governingRule (map (ruleAt s) rules)) (map (eventAt s) events) lo hi)

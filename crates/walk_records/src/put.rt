@@ -7,54 +7,54 @@ ghost use Rattle.wire.specs.Fields.{Inside, Put, wrote};
 ghost use Rattle.zone.specs.Zone.{zoneOf};
 ghost use Rattle.zone.specs.Answers.{Valid};
 ghost use Rattle.venue.specs.Filled.{Ready};
-ghost use Rattle.walk.specs.Walking.{Fits};
+ghost use Rattle.walk.specs.Walking.{PieceFits};
 ghost use Rattle.answer.specs.Forms.{phase, encode, encodeAll, phaseSize};
 ghost use Rattle.answer.specs.Meaning.{phaseOf};
-ghost use Rattle.joining.specs.Amending.{joinedHead};
+ghost use Rattle.joining.specs.Amending.{mergedPhase};
 ghost use Rattle.walk_records.specs.Walked.{walkForms};
 ghost use Rattle.walk_records.specs.Private.{Recorded, pieceHead};
 use answer::PHASE_SIZE;
 use answer::Phase;
 use answer::amend_phase;
 use answer::begin_phase;
-use day::MOST_KEPT;
-use day::Segment;
-use joining::joined;
-use joining::joins;
+use day::DaySegment;
+use day::NEAR_RULES_LENGTH;
+use joining::is_joinable;
 use joining::last_of;
-use tell::phase_of;
-use tell::put_events;
+use joining::merged;
+use span_records::phase_of;
+use span_records::put_events;
 use venue::point_phase;
 use venue::rule_evidence;
 use venue::rule_uncertainty;
 use walk::MOST_BOUNDARIES;
 use walk::MOST_TURNS;
+use walk::NextPiece;
+use walk::NextTurn;
 use walk::Piece;
-use walk::Pulled;
-use walk::Turned;
+use walk::after_piece;
 use walk::begin;
-use walk::behind;
-use walk::here;
+use walk::next_piece;
+use walk::next_turn;
 use walk::segment;
-use walk::turn_on;
 use zone::Boundary;
 use zone::Instant;
 use zone::Uncertainty;
 use zone::widest;
 
-// The record of a piece, with so many events behind it. Where the piece is calm its uncertainties are the rule's, all three.
-fn head_of(book: &[u8], first: u32, ats: &[u64], offsets: &[u32], q: Piece, events: u32) -> Phase
-    requires { ⌜ Valid first (now ats) (now offsets) × Fits (now book) (zoneOf first (now ats) (now offsets)) q ⌝ }
-    ensures { λ r. ⌜ r ≡ pieceHead (now (book .entry)) (zoneOf first (now (ats .entry)) (now (offsets .entry))) q events ⌝ }
+// The record of a piece, with so many events behind it. Where the piece is clear its uncertainties are the rule's, all three.
+fn head_of(book: &[u8], offset0: u32, ats: &[u64], offsets: &[u32], q: Piece, events: u32) -> Phase
+    requires { ⌜ Valid offset0 (now ats) (now offsets) × PieceFits (now book) (zoneOf offset0 (now ats) (now offsets)) q ⌝ }
+    ensures { λ r. ⌜ r ≡ pieceHead (now (book .entry)) (zoneOf offset0 (now (ats .entry)) (now (offsets .entry))) q events ⌝ }
 {
     let from = q.from;
     let to = q.to;
-    if q.calm {
+    if q.clear {
         let rule = q.rule as usize;
         let published = rule_uncertainty(book, rule);
         let start = q.start;
         let end = q.end;
-        let g = Segment {
+        let g = DaySegment {
             start: Boundary {
                 at: start,
                 uncertainty: published,
@@ -68,7 +68,7 @@ fn head_of(book: &[u8], first: u32, ats: &[u64], offsets: &[u32], q: Piece, even
         };
         return phase_of(book, g, published, from, to, events);
     }
-    let g = segment(book, first, ats, offsets, q);
+    let g = segment(book, offset0, ats, offsets, q);
     let start = g.start;
     let end = g.end;
     let before = start.uncertainty;
@@ -94,10 +94,10 @@ fn record_place(joining: bool, stand: usize, place: usize) -> usize
 // What the record says behind a span: what joined spans say, or the span's own.
 fn told(joining: bool, head: Phase, new: Phase) -> Phase
     requires { ⌜ cond joining (head .events) 0 + new .events < 2 ^ 32 ⌝ }
-    ensures { λ r. ⌜ r ≡ cond joining (joinedHead head new) new ⌝ }
+    ensures { λ r. ⌜ r ≡ cond joining (mergedPhase head new) new ⌝ }
 {
     if joining {
-        return joined(head, new);
+        return merged(head, new);
     }
     new
 }
@@ -139,7 +139,7 @@ fn blank() -> Phase
 // Writes the walk from `lo` to before `hi`, from `at` on. Answers the place behind it.
 pub fn put_walk(
     book: &[u8],
-    first: u32,
+    offset0: u32,
     ats: &[u64],
     offsets: &[u32],
     rules: &[u32],
@@ -149,19 +149,19 @@ pub fn put_walk(
     out: &mut [u8],
     at: usize,
 ) -> usize
-    requires { ⌜ Ready (now book) first (now ats) (now offsets) (now rules) (now events)
-        × Inside at (length (encodeAll (walkForms (now book) first (now ats) (now offsets) (now rules) (now events) (lo .0) (hi .0)))) (now out) ⌝ }
+    requires { ⌜ Ready (now book) offset0 (now ats) (now offsets) (now rules) (now events)
+        × Inside at (length (encodeAll (walkForms (now book) offset0 (now ats) (now offsets) (now rules) (now events) (lo .0) (hi .0)))) (now out) ⌝ }
     ensures { λ r. ⌜ Put (now (out .entry)) at
-        (encodeAll (walkForms (now (book .entry)) first (now (ats .entry)) (now (offsets .entry)) (now (rules .entry)) (now (events .entry)) (lo .0) (hi .0)))
+        (encodeAll (walkForms (now (book .entry)) offset0 (now (ats .entry)) (now (offsets .entry)) (now (rules .entry)) (now (events .entry)) (lo .0) (hi .0)))
         (length (encodeAll
-        (walkForms (now (book .entry)) first (now (ats .entry)) (now (offsets .entry)) (now (rules .entry)) (now (events .entry)) (lo .0) (hi .0))))
+        (walkForms (now (book .entry)) offset0 (now (ats .entry)) (now (offsets .entry)) (now (rules .entry)) (now (events .entry)) (lo .0) (hi .0))))
         (now (out .exit)) r ⌝ }
 {
-    let mut kept = [0u32; MOST_KEPT];
+    let mut kept = [0u32; NEAR_RULES_LENGTH];
     let mut edges = [0u64; MOST_BOUNDARIES];
     let opening = begin(
         book,
-        first,
+        offset0,
         ats,
         offsets,
         rules,
@@ -177,32 +177,32 @@ pub fn put_walk(
     let mut stand = at;
     let mut place = at;
     'pieces: loop {
-        match here(book, &edges, hi, w) {
-            Pulled::Next(q) => {
+        match next_piece(book, &edges, hi, w) {
+            NextPiece::Next(q) => {
                 let from = q.from;
                 let start = q.start;
                 let end = q.end;
                 let rule = q.rule as usize;
                 let until = head.end;
-                let joining = joins(
+                let joining = is_joinable(
                     last_of(begun, until, head.phase, head.evidence),
                     from,
                     point_phase(book, rule, q.point),
                     rule_evidence(book, rule),
                 );
                 let front = events_place(joining, place);
-                let trail = put_events(book, first, ats, offsets, events, start, end, out, front);
-                let new = head_of(book, first, ats, offsets, q, trail.count as u32);
+                let trail = put_events(book, offset0, ats, offsets, events, start, end, out, front);
+                let new = head_of(book, offset0, ats, offsets, q, trail.count as u32);
                 stand = record_place(joining, stand, place);
                 head = told(joining, head, new);
                 put_record(out, stand, joining, head);
                 begun = true;
                 place = trail.behind;
-                w = behind(q);
+                w = after_piece(q);
             }
-            Pulled::Done => match turn_on(
+            NextPiece::Done => match next_turn(
                 book,
-                first,
+                offset0,
                 ats,
                 offsets,
                 rules,
@@ -211,8 +211,8 @@ pub fn put_walk(
                 hi,
                 w,
             ) {
-                Turned::Done => break 'pieces,
-                Turned::On(next) => {
+                NextTurn::Done => break 'pieces,
+                NextTurn::On(next) => {
                     w = next;
                 }
             },

@@ -8,20 +8,20 @@ ghost use Rattle.answer.specs.Forms.{encodeAll, phaseSize};
 ghost use Rattle.walk_records.specs.Walked.{walkForms};
 use answer::EVENT_SIZE;
 use answer::PHASE_SIZE;
-use day::MOST_KEPT;
+use day::NEAR_RULES_LENGTH;
 use events::count_events;
 use joining::Last;
-use joining::joins;
+use joining::is_joinable;
 use venue::point_phase;
 use venue::rule_evidence;
 use walk::MOST_BOUNDARIES;
 use walk::MOST_TURNS;
-use walk::Pulled;
-use walk::Turned;
+use walk::NextPiece;
+use walk::NextTurn;
+use walk::after_piece;
 use walk::begin;
-use walk::behind;
-use walk::here;
-use walk::turn_on;
+use walk::next_piece;
+use walk::next_turn;
 use zone::Instant;
 
 // A span that joins the one before takes no record of its own.
@@ -34,7 +34,7 @@ fn record_size(joining: bool) -> usize
 // How many bytes the walk from `lo` to before `hi` takes.
 pub fn walk_size(
     book: &[u8],
-    first: u32,
+    offset0: u32,
     ats: &[u64],
     offsets: &[u32],
     rules: &[u32],
@@ -42,16 +42,16 @@ pub fn walk_size(
     lo: Instant,
     hi: Instant,
 ) -> usize
-    requires { ⌜ Ready (now book) first (now ats) (now offsets) (now rules) (now events) ⌝ }
+    requires { ⌜ Ready (now book) offset0 (now ats) (now offsets) (now rules) (now events) ⌝ }
     ensures { λ r. ⌜ (r ≡ length (encodeAll
-        (walkForms (now (book .entry)) first (now (ats .entry)) (now (offsets .entry)) (now (rules .entry)) (now (events .entry)) (lo .0) (hi .0))))
+        (walkForms (now (book .entry)) offset0 (now (ats .entry)) (now (offsets .entry)) (now (rules .entry)) (now (events .entry)) (lo .0) (hi .0))))
         × (r < 2 ^ 32) ⌝ }
 {
-    let mut kept = [0u32; MOST_KEPT];
+    let mut kept = [0u32; NEAR_RULES_LENGTH];
     let mut edges = [0u64; MOST_BOUNDARIES];
     let opening = begin(
         book,
-        first,
+        offset0,
         ats,
         offsets,
         rules,
@@ -65,8 +65,8 @@ pub fn walk_size(
     let mut last = Last::Nothing;
     let mut size: usize = 0;
     'pieces: loop {
-        match here(book, &edges, hi, w) {
-            Pulled::Next(q) => {
+        match next_piece(book, &edges, hi, w) {
+            NextPiece::Next(q) => {
                 let from = q.from;
                 let to = q.to;
                 let start = q.start;
@@ -74,15 +74,15 @@ pub fn walk_size(
                 let rule = q.rule as usize;
                 let phase = point_phase(book, rule, q.point);
                 let evidence = rule_evidence(book, rule);
-                let record = record_size(joins(last, from, phase, evidence));
-                let count = count_events(book, first, ats, offsets, events, start, end);
+                let record = record_size(is_joinable(last, from, phase, evidence));
+                let count = count_events(book, offset0, ats, offsets, events, start, end);
                 size = size + record + EVENT_SIZE * count;
                 last = Last::Shows(to, phase, evidence);
-                w = behind(q);
+                w = after_piece(q);
             }
-            Pulled::Done => match turn_on(
+            NextPiece::Done => match next_turn(
                 book,
-                first,
+                offset0,
                 ats,
                 offsets,
                 rules,
@@ -91,8 +91,8 @@ pub fn walk_size(
                 hi,
                 w,
             ) {
-                Turned::Done => break 'pieces,
-                Turned::On(next) => {
+                NextTurn::Done => break 'pieces,
+                NextTurn::On(next) => {
                     w = next;
                 }
             },

@@ -2,7 +2,7 @@
 use mathlib.Core.Path.{_≡_, sym, ap, ap₂, _∙_}
 use mathlib.Core.Option.{Option}
 use Prim.Native.Nat.{ℕ, _+_, _-_}
-use Rattle.zone.specs.Units.{mostNs, offsetNs, nearestInstant, nearestReading, readingAt}
+use Rattle.zone.specs.Units.{mostOffsetNs, offsetNs, nearestInstant, nearestReading, readingAt}
 use Rattle.zone.specs.Zone.{Zone, offsetAt, readingOf, resolve}
 use Rattle.zone.specs.Answers.{taken, uncertain, boundary, boundaryAt, width, wider, widestOf}
 use Rattle.zone.specs.declared.Boundary.{Boundary}
@@ -31,5 +31,5 @@ boundary-by z d x w u v r t a b p q =
     boundary-of t (taken r) v (uncertain r u) p q ∙ ap (λ (s : Resolution). boundary s u) (b ∙ ap (λ (y : ℕ). resolve z (nearestReading y)) a)
 
 -- the reading that the code adds up
-pub reading-by : (z : Zone) (t u o : ℕ) → u ≡ nearestInstant t → o ≡ offsetAt z u → u + offsetNs o - mostNs ≡ readingOf z t
-reading-by z t u o p q = ap (λ (k : ℕ). u + offsetNs k - mostNs) q ∙ ap (λ (k : ℕ). k + offsetNs (offsetAt z k) - mostNs) p
+pub reading-by : (z : Zone) (t u o : ℕ) → u ≡ nearestInstant t → o ≡ offsetAt z u → u + offsetNs o - mostOffsetNs ≡ readingOf z t
+reading-by z t u o p q = ap (λ (k : ℕ). u + offsetNs k - mostOffsetNs) q ∙ ap (λ (k : ℕ). k + offsetNs (offsetAt z k) - mostOffsetNs) p

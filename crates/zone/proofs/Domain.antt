@@ -11,7 +11,7 @@ use Rattle.calendar.specs.Answers.{lastDay, zeroDay}
 use mir.Val.{ofZ}
 use borrow.Author.Tests.{ltb-true, ltb-false}
 use mathlib.Core.Bool.{Bool, true, false}
-use Rattle.zone.specs.Units.{dayNs, mostNs, offsetNs, instantNumber, firstInstant, lastInstant, firstReading, lastReading, nearestInstant, nearestReading, readingDay, readingTime, readingAt, secondNs, instantOf, secondsInstant}
+use Rattle.zone.specs.Units.{dayNs, mostOffsetNs, offsetNs, instantNumber, firstInstant, lastInstant, firstReading, lastReading, nearestInstant, nearestReading, readingDay, readingTime, readingAt, secondNs, instantOf, secondsInstant}
 use Rattle.zone.specs.Zone.{Zone, zoneOf, offsetAt, Reads, readingOf, dateAt, resolve}
 use Rattle.zone.specs.Answers.{Valid, taken}
 use Rattle.zone.proofs.Offsets.{offset-most}
@@ -65,11 +65,11 @@ module _ (first : ℕ) (ats os : List ℕ) (ok : Valid first ats os) where
   pub reads-own : (t : ℕ) → firstInstant ≤ t → t ≤ lastInstant → Reads z t (readingOf z t)
   reads-own t a b =
       let n : nearestInstant t ≡ t = omega arith in
-      let r : readingOf z t ≡ t + offsetNs (offsetAt z t) - mostNs = ap (λ (u : ℕ). u + offsetNs (offsetAt z u) - mostNs) n in
+      let r : readingOf z t ≡ t + offsetNs (offsetAt z t) - mostOffsetNs = ap (λ (u : ℕ). u + offsetNs (offsetAt z u) - mostOffsetNs) n in
       omega arith
 
   -- an instant is among the instants of its own reading
-  pub own : (t : ℕ) → firstInstant + mostNs ≤ t → t ≤ lastInstant → Among t (resolve z (readingOf z t))
+  pub own : (t : ℕ) → firstInstant + mostOffsetNs ≤ t → t ≤ lastInstant → Among t (resolve z (readingOf z t))
   own t a b =
       let r = reads-own t (omega arith) b in
       among first ats os ok (readingOf z t) (omega arith) t r

@@ -10,7 +10,7 @@ use lib.Dec.{leb, ltb}
 use Rattle.wire.proofs.Signs.{and-true}
 use native.Mathlib.Omega.{arith}
 use lib.ListN.{length, getD, List·getD-eq-default}
-use Rattle.zone.specs.Units.{mostOffset, mostNs}
+use Rattle.zone.specs.Units.{mostOffset, mostOffsetNs}
 use Rattle.zone.specs.Zone.{Zone, zoneOf, offsetAt, instantBy, resolve}
 use Rattle.zone.specs.Answers.{Each, Spaced, spacingNs, Valid}
 use Rattle.zone.specs.Private.{Between, Passed, around}
@@ -84,7 +84,7 @@ module _ (ats : List ℕ) (u k : ℕ) (p : Passed ats u k) where
 
 -- ---- a reading x, where k transitions have passed 57,600 s before it
 
-module _ (first : ℕ) (ats os : List ℕ) (ok : Valid first ats os) (x k : ℕ) (low : mostNs ≤ x) (p : Passed ats (x - mostNs) k) where
+module _ (first : ℕ) (ats os : List ℕ) (ok : Valid first ats os) (x k : ℕ) (low : mostOffsetNs ≤ x) (p : Passed ats (x - mostOffsetNs) k) where
   abbrev z : Zone
   z = zoneOf first ats os
 
@@ -95,18 +95,18 @@ module _ (first : ℕ) (ats os : List ℕ) (ok : Valid first ats os) (x k : ℕ)
   offset-by t j q = offset-passed t first j ats os (ok .spaced) (ok .alike) q
 
   -- the next one stands too late to matter
-  pub none-near : x + mostNs < getD ats k (2 ^ 64) → resolve z x ≡ Clear (record { 0 = instantBy o x })
+  pub none-near : x + mostOffsetNs < getD ats k (2 ^ 64) → resolve z x ≡ Clear (record { 0 = instantBy o x })
   none-near h =
       resolve-steady first ats os ok x low o
-      (λ t a b. offset-by t k (passed-still ats (x - mostNs) k p t a (omega arith)))
+      (λ t a b. offset-by t k (passed-still ats (x - mostOffsetNs) k p t a (omega arith)))
 
   -- the next one stands near
-  pub one-near : x + mostNs < 2 ^ 64 → k < length ats → getD ats k 0 ≤ x + mostNs
+  pub one-near : x + mostOffsetNs < 2 ^ 64 → k < length ats → getD ats k 0 ≤ x + mostOffsetNs
       → resolve z x ≡ around (getD ats k 0) (instantBy o x) (instantBy (getD os k 0) x)
   one-near f h l =
       let at = getD ats k 0 in
-      let u = x - mostNs in
-      let v = x + mostNs in
+      let u = x - mostOffsetNs in
+      let v = x + mostOffsetNs in
       let same = getD-within ats k (2 ^ 64) 0 h in
       let was : (t : ℕ) → u ≤ t → t < at → offsetAt z t ≡ o = λ t a m. offset-by t k (passed-still ats u k p t a (omega arith)) in
       let is : (t : ℕ) → t ≤ v → at ≤ t → offsetAt z t ≡ getD os k 0 =

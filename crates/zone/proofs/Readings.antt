@@ -8,7 +8,7 @@ use native.Mathlib.Decide.{decLt, decLe}
 use native.Mathlib.Omega.{arith}
 use borrow.Author.Tests.{eqb-true, eqb-false, eq-eqb, ne-eqb, lt-ltb, le-ltb, le-leb, lt-leb}
 use lib.Dec.{eqb}
-use Rattle.zone.specs.Units.{mostOffset, mostNs}
+use Rattle.zone.specs.Units.{mostOffset, mostOffsetNs}
 use Rattle.zone.specs.Zone.{Zone, zoneOf, offsetAt, Reads, instantBy, byBefore, byAfter, reads, resolved, resolve, Skips, Means}
 use Rattle.zone.specs.Answers.{Valid, taken}
 use Rattle.zone.specs.Private.{around}
@@ -63,16 +63,16 @@ decided r s e at a b k f f′ g g′ = go (decLt a at) (decLe at b)
     go (no l) (yes m) = second-only r s e k (g m) (f′ (omega arith)) (omega arith) m
     go (no l) (no m) = neither r s e (f′ (omega arith)) (g′ (omega arith)) (omega arith) (omega arith)
 
-module _ (first : ℕ) (ats os : List ℕ) (ok : Valid first ats os) (x : ℕ) (low : mostNs ≤ x) where
+module _ (first : ℕ) (ats os : List ℕ) (ok : Valid first ats os) (x : ℕ) (low : mostOffsetNs ≤ x) where
   abbrev z : Zone
   z = zoneOf first ats os
 
   -- where the instants of x can lie
   abbrev u : ℕ
-  u = x - mostNs
+  u = x - mostOffsetNs
 
   abbrev v : ℕ
-  v = x + mostNs
+  v = x + mostOffsetNs
 
   abbrev a : ℕ
   a = byBefore z x

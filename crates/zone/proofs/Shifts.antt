@@ -10,7 +10,7 @@ use borrow.Author.Tests.{lt-ltb, le-ltb, le-leb, lt-leb, leb-true}
 use lib.Dec.{leb, ltb}
 use lib.ListN.{length, getD}
 use Rattle.calendar.specs.Answers.{lastDay}
-use Rattle.zone.specs.Units.{dayNs, mostOffset, mostNs, offsetNs, nearestInstant, nearestReading, readingAt}
+use Rattle.zone.specs.Units.{dayNs, mostOffset, mostOffsetNs, offsetNs, nearestInstant, nearestReading, readingAt}
 use Rattle.zone.specs.Zone.{Change, Zone, changesOf, zoneOf, lastOffset, offsetAt, dateAt, resolve}
 use Rattle.zone.specs.Answers.{After, Spaced, Valid, boundary, boundaryAt}
 use Rattle.zone.specs.Private.{Passed}
@@ -109,7 +109,7 @@ stays o a b t (c ∷ cs) e h i = go (λ p r. stays p a b t cs r h i) (decLe (c .
         ∙ sym (ap (λ (v : Bool). lastOffset (cond v (c .offset) o) cs a) (lt-leb (c .at) a (omega arith)))
 
 -- the stretch is well inside the instants in use, and the offset is o from 56 hours before it to 56 hours after it
-pub record Calm (z : Zone) (from to o : ℕ) : Type 0 where
+pub record SteadyOver (z : Zone) (from to o : ℕ) : Type 0 where
   pub early : firstSteady ≤ from
   pub late : to ≤ lastSteady
   pub same : (t : ℕ) → from ≤ t + marginNs → t ≤ to + marginNs → offsetAt z t ≡ o
@@ -121,13 +121,13 @@ IsNo (By o) = ⊥
 not-by : (o : ℕ) → No ≡ By o → ⊥
 not-by o e = subst IsNo e tt
 
-pub steady-calm : (z : Zone) (from to o : ℕ) → from ≤ to → steadyOf z from to ≡ By o → Calm z from to o
+pub steady-over : (z : Zone) (from to o : ℕ) → from ≤ to → steadyOf z from to ≡ By o → SteadyOver z from to o
 unfolding steadyOf
-steady-calm z from to o h e =
+steady-over z from to o h e =
     go (leb firstSteady from) (leb to lastSteady) (noneWithin (from - marginNs) (to + marginNs) (z .changes)) refl refl refl e
   where
     go : (p q n : Bool) → leb firstSteady from ≡ p → leb to lastSteady ≡ q → noneWithin (from - marginNs) (to + marginNs) (z .changes) ≡ n
-        → cond (p && q) (cond n (By (offsetAt z (from - marginNs))) No) No ≡ By o → Calm z from to o
+        → cond (p && q) (cond n (By (offsetAt z (from - marginNs))) No) No ≡ By o → SteadyOver z from to o
     go true true true i j k m =
         let early = leb-true firstSteady from i in
         let is : offsetAt z (from - marginNs) ≡ o = cc in
@@ -151,10 +151,10 @@ day-high o t d h i j = omega arith
 reading-plain : (d x : ℕ) → 3 ≤ d → d ≤ lastDay + 5 → x ≤ dayNs → nearestReading (readingAt d x) ≡ d * dayNs + x
 reading-plain d x h i j = omega arith
 
-far-enough : (d x : ℕ) → 3 ≤ d → mostNs ≤ d * dayNs + x
+far-enough : (d x : ℕ) → 3 ≤ d → mostOffsetNs ≤ d * dayNs + x
 far-enough d x h = omega arith
 
-behind-midnight : (o d x : ℕ) → o ≤ 2 * mostOffset → 3 ≤ d → d * dayNs + x + mostNs - offsetNs o ≡ midnightBy o d + x
+behind-midnight : (o d x : ℕ) → o ≤ 2 * mostOffset → 3 ≤ d → d * dayNs + x + mostOffsetNs - offsetNs o ≡ midnightBy o d + x
 behind-midnight o d x h i = omega arith
 
 not-past : (d x e : ℕ) → d * dayNs + x ≤ suc e * dayNs → d ≤ suc e
@@ -167,11 +167,11 @@ in-date d x e h i = omega arith
 pub next-midnight : (d e : ℕ) → d ≤ e → suc d * dayNs + 0 ≤ suc e * dayNs
 next-midnight d e h = omega arith
 
-near-low : (o from d x t : ℕ) → o ≤ 2 * mostOffset → firstSteady ≤ from → dayBy o from ≤ d → d * dayNs + x - mostNs ≤ t
+near-low : (o from d x t : ℕ) → o ≤ 2 * mostOffset → firstSteady ≤ from → dayBy o from ≤ d → d * dayNs + x - mostOffsetNs ≤ t
     → from ≤ t + marginNs
 near-low o from d x t h i j k = omega arith
 
-near-high : (o to d x t : ℕ) → o ≤ 2 * mostOffset → d * dayNs + x ≤ suc (dayBy o to) * dayNs → firstSteady ≤ to → t ≤ d * dayNs + x + mostNs
+near-high : (o to d x t : ℕ) → o ≤ 2 * mostOffset → d * dayNs + x ≤ suc (dayBy o to) * dayNs → firstSteady ≤ to → t ≤ d * dayNs + x + mostOffsetNs
     → t ≤ to + marginNs
 near-high o to d x t h i l k = omega arith
 
@@ -180,29 +180,29 @@ module _ (first : ℕ) (ats os : List ℕ) (ok : Valid first ats os) (from to o 
   abbrev z : Zone
   z = zoneOf first ats os
 
-  calm : Calm z from to o
-  calm = steady-calm z from to o h e
+  over : SteadyOver z from to o
+  over = steady-over z from to o h e
 
   most : o ≤ 2 * mostOffset
-  most = let same = calm .same from (omega arith) (omega arith) in omega (arith, same, offset-most first ats os from ok)
+  most = let same = over .same from (omega arith) (omega arith) in omega (arith, same, offset-most first ats os from ok)
 
   -- an instant of the stretch
   pub steady-in : (t : ℕ) → from ≤ t → t ≤ to → OnWall o t
-  steady-in t a b = (most, omega (arith, calm .early), omega (arith, calm .late))
+  steady-in t a b = (most, omega (arith, over .early), omega (arith, over .late))
 
   -- reads its date by the offset
   pub steady-date : (t : ℕ) → from ≤ t → t ≤ to → dateAt z t ≡ dayBy o t
   steady-date t a b =
-      let n : nearestInstant t ≡ t = omega (arith, calm .early, calm .late) in
-      let same = calm .same t (omega arith) (omega arith) in
-      ap (λ (u : ℕ). (u + offsetNs (offsetAt z u) - mostNs) / dayNs) n ∙ ap (λ (p : ℕ). (t + offsetNs p - mostNs) / dayNs) same
+      let n : nearestInstant t ≡ t = omega (arith, over .early, over .late) in
+      let same = over .same t (omega arith) (omega arith) in
+      ap (λ (u : ℕ). (u + offsetNs (offsetAt z u) - mostOffsetNs) / dayNs) n ∙ ap (λ (p : ℕ). (t + offsetNs p - mostOffsetNs) / dayNs) same
 
   -- a date from that of the first instant to the one after that of the last
   pub steady-day-in : (d : ℕ) → dateAt z from ≤ d → d ≤ suc (dateAt z to) → DayOnWall o d
   steady-day-in d a b = (
     most,
-    day-low o from d most (calm .early) (subst (λ (k : ℕ). k ≤ d) (steady-date from (omega arith) h) a),
-    day-high o to d most (calm .late) (subst (λ (k : ℕ). d ≤ suc k) (steady-date to h (omega arith)) b),
+    day-low o from d most (over .early) (subst (λ (k : ℕ). k ≤ d) (steady-date from (omega arith) h) a),
+    day-high o to d most (over .late) (subst (λ (k : ℕ). d ≤ suc k) (steady-date to h (omega arith)) b),
   )
 
   -- converts by the offset, up to the midnight that ends the last date
@@ -214,7 +214,7 @@ module _ (first : ℕ) (ats os : List ℕ) (ok : Valid first ats os) (from to o 
       let in-use = steady-day-in d a (not-past d x (dateAt z to) b) in
       let w = d * dayNs + x in
       let shifted = resolve-steady first ats os ok w (far-enough d x (in-use .1)) o
-      (λ t p q. calm .same t (near-low o from d x t most (calm .early) i p) (near-high o to d x t most j (omega (arith, calm .early, h)) q)) in
+      (λ t p q. over .same t (near-low o from d x t most (over .early) i p) (near-high o to d x t most j (omega (arith, over .early, h)) q)) in
       ap (λ (r : ℕ). boundary (resolve z r) u) (reading-plain d x (in-use .1) (in-use .2) c)
       ∙ ap (λ (r : Resolution). boundary r u) shifted
-      ∙ boundary-of (w + mostNs - offsetNs o) (midnightBy o d + x) u u (behind-midnight o d x most (in-use .1)) refl
+      ∙ boundary-of (w + mostOffsetNs - offsetNs o) (midnightBy o d + x) u u (behind-midnight o d x most (in-use .1)) refl

@@ -9,7 +9,7 @@ use native.Mathlib.Omega.{arith}
 use borrow.Author.Tests.{eqb-true, eq-eqb, lt-ltb, le-ltb, le-leb, lt-leb}
 use lib.Dec.{leb, ltb}
 use Rattle.wire.proofs.Signs.{and-true, and-no}
-use Rattle.zone.specs.Units.{mostNs, offsetNs, nearestInstant, readingDay}
+use Rattle.zone.specs.Units.{mostOffsetNs, offsetNs, nearestInstant, readingDay}
 use Rattle.zone.specs.Zone.{Change, Zone, lastOffset, offsetAt, dateAt}
 use Rattle.zone.specs.Throughout.{readsOn, readsAround, readsChanges, readsThroughout}
 
@@ -51,7 +51,7 @@ same-offset o (c ∷ cs) u v h p =
 
 -- by one offset, readings rise with instants, and dates with readings
 date-between : (u t v o p q d : ℕ) → u ≤ t → t ≤ v → o ≡ p → p ≡ q
-    → readingDay (u + offsetNs o - mostNs) ≡ d → readingDay (v + offsetNs q - mostNs) ≡ d → readingDay (t + offsetNs p - mostNs) ≡ d
+    → readingDay (u + offsetNs o - mostOffsetNs) ≡ d → readingDay (v + offsetNs q - mostOffsetNs) ≡ d → readingDay (t + offsetNs p - mostOffsetNs) ≡ d
 date-between u t v o p q d h i e f a b = omega arith
 
 -- the last instant before b

@@ -6,14 +6,14 @@ use mathlib.Core.List.{List, [], _∷_}
 use mathlib.Core.Option.{Option, none, some}
 use lib.Dec.{leb, ltb}
 use Rattle.calendar.specs.Answers.{firstDay, lastDay}
-use Rattle.zone.specs.Units.{dayNs, mostOffset, mostNs, offsetNs, readingDay}
+use Rattle.zone.specs.Units.{dayNs, mostOffset, mostOffsetNs, offsetNs, readingDay}
 use Rattle.zone.specs.Zone.{Change, Zone, offsetAt, instantBy}
 use Rattle.zone.specs.declared.steady.Steady.{Steady}
 use Rattle.zone.specs.declared.steady.Steady.the-variants.{No, By}
 
 -- 56 hours: a day, and twice as much as an offset can be
 abbrev pub marginNs : ℕ
-marginNs = dayNs + 2 * mostNs
+marginNs = dayNs + 2 * mostOffsetNs
 
 -- where transitions can stand: so far from the first and the last instant in use that nothing saturates
 abbrev pub firstSteady : ℕ
@@ -36,7 +36,7 @@ steadyOf z from to =
 
 -- the date that the wall shows by an offset
 abbrev pub dayBy : ℕ → ℕ → ℕ
-dayBy o t = readingDay (t + offsetNs o - mostNs)
+dayBy o t = readingDay (t + offsetNs o - mostOffsetNs)
 
 -- the instant at which a date begins by an offset
 abbrev pub midnightBy : ℕ → ℕ → ℕ

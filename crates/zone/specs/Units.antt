@@ -34,8 +34,8 @@ mostOffset = 57600
 abbrev pub spacing : ℕ
 spacing = 172800
 
-abbrev pub mostNs : ℕ
-mostNs = mostOffset * secondNs
+abbrev pub mostOffsetNs : ℕ
+mostOffsetNs = mostOffset * secondNs
 
 abbrev pub offsetNs : ℕ → ℕ
 offsetNs o = o * secondNs

@@ -5,7 +5,7 @@ use mathlib.Core.Path.{_≡_}
 use mathlib.Core.Bool.{Bool, true, false, cond}
 use mathlib.Core.List.{List, [], _∷_}
 use lib.Dec.{leb, eqb}
-use Rattle.zone.specs.Units.{mostNs, offsetNs, nearestInstant, readingDay}
+use Rattle.zone.specs.Units.{mostOffsetNs, offsetNs, nearestInstant, readingDay}
 use Rattle.zone.specs.declared.Resolution.{Resolution}
 use Rattle.zone.specs.declared.Resolution.the-variants.{Clear, Fold, Gap}
 
@@ -40,11 +40,11 @@ offsetAt z t = lastOffset (z .first) (z .changes) t
 
 -- the wall shows x at the instant t
 abbrev pub Reads : Zone → ℕ → ℕ → Type 0
-Reads z t x = x + mostNs ≡ t + offsetNs (offsetAt z t)
+Reads z t x = x + mostOffsetNs ≡ t + offsetNs (offsetAt z t)
 
 -- what the wall shows
 abbrev pub readingOf : Zone → ℕ → ℕ
-readingOf z t = nearestInstant t + offsetNs (offsetAt z (nearestInstant t)) - mostNs
+readingOf z t = nearestInstant t + offsetNs (offsetAt z (nearestInstant t)) - mostOffsetNs
 
 -- its date
 abbrev pub dateAt : Zone → ℕ → ℕ
@@ -54,17 +54,17 @@ dateAt z t = readingDay (readingOf z t)
 
 -- by an offset
 abbrev pub instantBy : ℕ → ℕ → ℕ
-instantBy o x = x + mostNs - offsetNs o
+instantBy o x = x + mostOffsetNs - offsetNs o
 
--- every instant that can read x lies from `mostNs` before it to `mostNs` after it; these are x by the offsets there
+-- every instant that can read x lies from `mostOffsetNs` before it to `mostOffsetNs` after it; these are x by the offsets there
 abbrev pub byBefore : Zone → ℕ → ℕ
-byBefore z x = instantBy (offsetAt z (x - mostNs)) x
+byBefore z x = instantBy (offsetAt z (x - mostOffsetNs)) x
 
 abbrev pub byAfter : Zone → ℕ → ℕ
-byAfter z x = instantBy (offsetAt z (x + mostNs)) x
+byAfter z x = instantBy (offsetAt z (x + mostOffsetNs)) x
 
 abbrev pub reads : Zone → ℕ → ℕ → Bool
-reads z t x = eqb (x + mostNs) (t + offsetNs (offsetAt z t))
+reads z t x = eqb (x + mostOffsetNs) (t + offsetNs (offsetAt z t))
 
 -- a and b are x by the offsets before and after: whether they read x, and whether they are one
 abbrev pub resolved : Bool → Bool → Bool → ℕ → ℕ → Resolution

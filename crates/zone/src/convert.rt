@@ -11,7 +11,7 @@ use crate::Doubt;
 use crate::FIRST_INSTANT;
 use crate::Instant;
 use crate::LAST_INSTANT;
-use crate::MOST_NS;
+use crate::MOST_OFFSET_NS;
 use crate::Reading;
 use crate::Resolution;
 use crate::SECOND_NS;
@@ -44,13 +44,13 @@ pub(crate) fn nearest(low: u64, x: u64, high: u64) -> u64
 }
 
 // What the wall shows at an instant.
-pub fn reading_of(first: u32, ats: &[u64], offsets: &[u32], t: Instant) -> Reading
-    requires { ⌜ Valid first (now ats) (now offsets) ⌝ }
-    ensures { λ r. ⌜ r .0 ≡ readingOf (zoneOf first (now (ats .entry)) (now (offsets .entry))) (t .0) ⌝ }
+pub fn reading_of(offset0: u32, ats: &[u64], offsets: &[u32], t: Instant) -> Reading
+    requires { ⌜ Valid offset0 (now ats) (now offsets) ⌝ }
+    ensures { λ r. ⌜ r .0 ≡ readingOf (zoneOf offset0 (now (ats .entry)) (now (offsets .entry))) (t .0) ⌝ }
 {
     let u = nearest(FIRST_INSTANT, t.0, LAST_INSTANT);
-    let offset = offset_at(first, ats, offsets, Instant(u)) as u64;
-    Reading(u + offset * SECOND_NS - MOST_NS)
+    let offset = offset_at(offset0, ats, offsets, Instant(u)) as u64;
+    Reading(u + offset * SECOND_NS - MOST_OFFSET_NS)
 }
 
 // The date of a reading.
@@ -80,7 +80,7 @@ fn instant_by(offset: u32, x: u64) -> u64
     requires { ⌜ (offset ≤ 2 * mostOffset) × (firstReading ≤ x) × (x ≤ lastReading) ⌝ }
     ensures { λ r. ⌜ r ≡ instantBy offset x ⌝ }
 {
-    x + MOST_NS - offset as u64 * SECOND_NS
+    x + MOST_OFFSET_NS - offset as u64 * SECOND_NS
 }
 
 // Around one transition: a is a reading by the offset before it, b by the one after.
@@ -105,18 +105,18 @@ fn around(at: u64, a: u64, b: u64) -> Resolution
 
 // The instants of a reading. At most one transition stands near enough to matter: 57,600 s to either side, where two are never
 // less than 172,800 s apart.
-pub fn to_utc(first: u32, ats: &[u64], offsets: &[u32], x: Reading) -> Resolution
-    requires { ⌜ Valid first (now ats) (now offsets) ⌝ }
-    ensures { λ r. ⌜ r ≡ resolve (zoneOf first (now (ats .entry)) (now (offsets .entry))) (nearestReading (x .0)) ⌝ }
+pub fn to_utc(offset0: u32, ats: &[u64], offsets: &[u32], x: Reading) -> Resolution
+    requires { ⌜ Valid offset0 (now ats) (now offsets) ⌝ }
+    ensures { λ r. ⌜ r ≡ resolve (zoneOf offset0 (now (ats .entry)) (now (offsets .entry))) (nearestReading (x .0)) ⌝ }
 {
     let wall = nearest(FIRST_READING, x.0, LAST_READING);
-    let count = passed(ats, wall - MOST_NS);
-    let a = instant_by(offset_after(first, offsets, count), wall);
+    let count = passed(ats, wall - MOST_OFFSET_NS);
+    let a = instant_by(offset_after(offset0, offsets, count), wall);
     if ats.len() <= count {
         return Resolution::Clear(Instant(a));
     }
     let at = ats[count];
-    if wall + MOST_NS < at {
+    if wall + MOST_OFFSET_NS < at {
         return Resolution::Clear(Instant(a));
     }
     around(at, a, instant_by(offsets[count], wall))
@@ -150,26 +150,26 @@ fn uncertain(r: Resolution, published: Uncertainty) -> Uncertainty
 
 // The boundary at a time of a date, with the uncertainty that is published for it.
 pub fn to_utc_at(
-    first: u32,
+    offset0: u32,
     ats: &[u64],
     offsets: &[u32],
     d: Day,
     time: u64,
     published: Uncertainty,
 ) -> Boundary
-    requires { ⌜ Valid first (now ats) (now offsets) ⌝ }
-    ensures { λ r. ⌜ r ≡ boundaryAt (zoneOf first (now (ats .entry)) (now (offsets .entry))) (d .0) time published ⌝ }
+    requires { ⌜ Valid offset0 (now ats) (now offsets) ⌝ }
+    ensures { λ r. ⌜ r ≡ boundaryAt (zoneOf offset0 (now (ats .entry)) (now (offsets .entry))) (d .0) time published ⌝ }
 {
-    let r = to_utc(first, ats, offsets, reading_at(d, time));
+    let r = to_utc(offset0, ats, offsets, reading_at(d, time));
     let at = taken(r);
     let uncertainty = uncertain(r, published);
     Boundary { at, uncertainty }
 }
 
 // The date that the wall shows at an instant.
-pub fn day_at(first: u32, ats: &[u64], offsets: &[u32], t: Instant) -> Day
-    requires { ⌜ Valid first (now ats) (now offsets) ⌝ }
-    ensures { λ r. ⌜ r .0 ≡ dateAt (zoneOf first (now (ats .entry)) (now (offsets .entry))) (t .0) ⌝ }
+pub fn day_at(offset0: u32, ats: &[u64], offsets: &[u32], t: Instant) -> Day
+    requires { ⌜ Valid offset0 (now ats) (now offsets) ⌝ }
+    ensures { λ r. ⌜ r .0 ≡ dateAt (zoneOf offset0 (now (ats .entry)) (now (offsets .entry))) (t .0) ⌝ }
 {
-    day_of_reading(reading_of(first, ats, offsets, t))
+    day_of_reading(reading_of(offset0, ats, offsets, t))
 }

@@ -37,7 +37,7 @@ pub const DAY_NS: u64 = 86_400 * SECOND_NS;
 // The most that an offset is, in seconds, ahead of UTC or behind it; and the most that it moves a reading.
 pub const MOST_OFFSET: u32 = 57_600;
 
-pub(crate) const MOST_NS: u64 = MOST_OFFSET as u64 * SECOND_NS;
+pub(crate) const MOST_OFFSET_NS: u64 = MOST_OFFSET as u64 * SECOND_NS;
 
 // An offset is kept in seconds plus the most that it is.
 pub(crate) const OFFSET_MOST: u32 = 2 * MOST_OFFSET;

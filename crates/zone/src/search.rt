@@ -9,15 +9,16 @@ ghost use Rattle.zone.specs.Answers.{Valid};
 ghost use Rattle.zone.specs.Private.{Between, Passed};
 use crate::Instant;
 
-// Fewer are bisected at once.
+// Fewer transitions than this are bisected at once.
 const FEW: usize = 8;
 
-// Of more no guess is made: its product has to stay small.
+// For more transitions than this no guess is made: a guess multiplies by their number, and the product has to stay small.
 const MANY: usize = 4_096;
 
+// A guess counts time in steps of this, about 4 seconds: near enough.
 const NEAR_NS: u64 = 0x1_0000_0000;
 
-// Where it is known to lie between two numbers, by bisection.
+// How many transitions have passed at an instant, by bisection: the number is known to lie from `from` to `to`.
 fn bisected(ats: &[u64], t: u64, from: usize, to: usize) -> usize
     requires { ⌜ Between (now ats) t from to ⌝ }
     ensures { λ r. ⌜ Passed (now (ats .entry)) t r ⌝ }
@@ -35,7 +36,7 @@ fn bisected(ats: &[u64], t: u64, from: usize, to: usize) -> usize
     low
 }
 
-// What it would be if they stood evenly: 4 seconds are near enough.
+// How many transitions would have passed at an instant if they stood evenly.
 fn guess(ats: &[u64], t: u64) -> usize
     ensures { λ r. ⌜ r ≤ length (now (ats .entry)) ⌝ }
 {
@@ -60,7 +61,7 @@ fn guess(ats: &[u64], t: u64) -> usize
     if even < n as u64 { even as usize } else { n }
 }
 
-// Where the last transition stands once a number have passed; where there is none, at the first instant of all.
+// The instant of the last transition once a number of them have passed; the first instant of all where none has.
 fn last_at(ats: &[u64], count: usize) -> u64
     requires { ⌜ count ≤ length (now ats) ⌝ }
     ensures { λ r. ⌜ r ≡ getD (0 ∷ now (ats .entry)) count 0 ⌝ }
@@ -71,7 +72,7 @@ fn last_at(ats: &[u64], count: usize) -> u64
     ats[count - 1]
 }
 
-// Where the next transition stands; where there is none, past every instant.
+// The instant of the next transition once a number of them have passed; past every instant where no more follows.
 pub(crate) fn next_at(ats: &[u64], count: usize) -> u64
     ensures { λ r. ⌜ r ≡ getD (now (ats .entry)) count 18446744073709551615 ⌝ }
 {
@@ -81,7 +82,8 @@ pub(crate) fn next_at(ats: &[u64], count: usize) -> u64
     0xffff_ffff_ffff_ffff
 }
 
-// A clock that changes twice a year has them nearly even, so that mostly the guess or the number behind it is right.
+// How many transitions have passed at an instant, first by a guess: a clock that changes twice a year has its transitions nearly even, so
+// that mostly the guess or the number after it is right.
 fn sought(ats: &[u64], t: u64) -> usize
     ensures { λ r. ⌜ Passed (now (ats .entry)) t r ⌝ }
 {
@@ -107,21 +109,21 @@ pub(crate) fn passed(ats: &[u64], t: u64) -> usize
 }
 
 // The offset once a number of the transitions have passed.
-pub(crate) fn offset_after(first: u32, offsets: &[u32], count: usize) -> u32
+pub(crate) fn offset_after(offset0: u32, offsets: &[u32], count: usize) -> u32
     requires { ⌜ count ≤ length (now offsets) ⌝ }
-    ensures { λ r. ⌜ r ≡ getD (first ∷ now (offsets .entry)) count 0 ⌝ }
+    ensures { λ r. ⌜ r ≡ getD (offset0 ∷ now (offsets .entry)) count 0 ⌝ }
 {
     if count == 0 {
-        first
+        offset0
     } else {
         offsets[count - 1]
     }
 }
 
-pub fn offset_at(first: u32, ats: &[u64], offsets: &[u32], t: Instant) -> u32
-    requires { ⌜ Valid first (now ats) (now offsets) ⌝ }
-    ensures { λ r. ⌜ (r ≡ offsetAt (zoneOf first (now (ats .entry)) (now (offsets .entry))) (t .0)) × (r ≤ 2 * mostOffset) ⌝ }
+pub fn offset_at(offset0: u32, ats: &[u64], offsets: &[u32], t: Instant) -> u32
+    requires { ⌜ Valid offset0 (now ats) (now offsets) ⌝ }
+    ensures { λ r. ⌜ (r ≡ offsetAt (zoneOf offset0 (now (ats .entry)) (now (offsets .entry))) (t .0)) × (r ≤ 2 * mostOffset) ⌝ }
 {
     let count = passed(ats, t.0);
-    offset_after(first, offsets, count)
+    offset_after(offset0, offsets, count)
 }

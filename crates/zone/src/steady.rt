@@ -7,7 +7,7 @@ use crate::DAY_NS;
 use crate::FIRST_TRANSITION;
 use crate::Instant;
 use crate::LAST_TRANSITION;
-use crate::MOST_NS;
+use crate::MOST_OFFSET_NS;
 use crate::SECOND_NS;
 use crate::convert::nearest;
 use crate::search::next_at;
@@ -24,12 +24,18 @@ pub enum Steady {
 }
 
 // A day, and twice as much as an offset can be.
-const MARGIN_NS: u64 = DAY_NS + 2 * MOST_NS;
+const MARGIN_NS: u64 = DAY_NS + 2 * MOST_OFFSET_NS;
 
 // The offset from 56 hours before one instant to 56 hours after another, if no transition stands there.
-pub fn steady_offset(first: u32, ats: &[u64], offsets: &[u32], from: Instant, to: Instant) -> Steady
-    requires { ⌜ Valid first (now ats) (now offsets) ⌝ }
-    ensures { λ r. ⌜ r ≡ steadyOf (zoneOf first (now (ats .entry)) (now (offsets .entry))) (from .0) (to .0) ⌝ }
+pub fn steady_offset(
+    offset0: u32,
+    ats: &[u64],
+    offsets: &[u32],
+    from: Instant,
+    to: Instant,
+) -> Steady
+    requires { ⌜ Valid offset0 (now ats) (now offsets) ⌝ }
+    ensures { λ r. ⌜ r ≡ steadyOf (zoneOf offset0 (now (ats .entry)) (now (offsets .entry))) (from .0) (to .0) ⌝ }
 {
     if from.0 < FIRST_TRANSITION {
         return Steady::No;
@@ -41,7 +47,7 @@ pub fn steady_offset(first: u32, ats: &[u64], offsets: &[u32], from: Instant, to
     if next_at(ats, count) <= to.0 + MARGIN_NS {
         return Steady::No;
     }
-    Steady::By(offset_after(first, offsets, count))
+    Steady::By(offset_after(offset0, offsets, count))
 }
 
 // The date that the wall shows by an offset.
@@ -49,7 +55,7 @@ pub fn steady_day(offset: u32, t: Instant) -> Day
     requires { ⌜ OnWall offset (t .0) ⌝ }
     ensures { λ r. ⌜ r .0 ≡ dayBy offset (t .0) ⌝ }
 {
-    Day(((t.0 + offset as u64 * SECOND_NS - MOST_NS) / DAY_NS) as u32)
+    Day(((t.0 + offset as u64 * SECOND_NS - MOST_OFFSET_NS) / DAY_NS) as u32)
 }
 
 // The instant at which a date begins by an offset.
@@ -57,7 +63,7 @@ pub fn steady_midnight(offset: u32, d: Day) -> Instant
     requires { ⌜ DayOnWall offset (d .0) ⌝ }
     ensures { λ r. ⌜ r .0 ≡ midnightBy offset (d .0) ⌝ }
 {
-    Instant(d.0 as u64 * DAY_NS + MOST_NS - offset as u64 * SECOND_NS)
+    Instant(d.0 as u64 * DAY_NS + MOST_OFFSET_NS - offset as u64 * SECOND_NS)
 }
 
 // The first date from d on near which the clock changes: on the UTC day of its number, on the one before or on the next. Where there is

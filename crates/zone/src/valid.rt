@@ -9,10 +9,10 @@ use crate::SPACING;
 
 const SPACING_NS: u64 = SPACING * SECOND_NS;
 
-pub fn is_valid(first: u32, ats: &[u64], offsets: &[u32]) -> bool
-    ensures { λ r. ⌜ r ≡ valid first (now (ats .entry)) (now (offsets .entry)) ⌝ }
+pub fn is_valid(offset0: u32, ats: &[u64], offsets: &[u32]) -> bool
+    ensures { λ r. ⌜ r ≡ valid offset0 (now (ats .entry)) (now (offsets .entry)) ⌝ }
 {
-    if OFFSET_MOST < first {
+    if OFFSET_MOST < offset0 {
         return false;
     }
     if ats.len() != offsets.len() {

@@ -41,8 +41,8 @@ here : (c : At tie.Else2) → let l = c .before .before .before .before in Segme
 here c = segmented _ _ (c .before .before .before .before .loop .inv .1 .ahead .on) (c .if2 .left)
 
 -- it and its events lie in the row
-inside : (c : At tie.After-segment-at) → endOf (c .segment-at .result) ≤ length (rowIn (c .before .before .before .before .before))
-inside c = end-inside (here (c .before)) (c .segment-at .ensures)
+inside : (c : At tie.After-read-segment) → endOf (c .read-segment .result) ≤ length (rowIn (c .before .before .before .before .before))
+inside c = end-inside (here (c .before)) (c .read-segment .ensures)
 
 -- or none is left
 none-left : (c : At tie.Then2) → let l = c .before .before .before .before in segmentsAt (rowIn l) (l .loop .at) ≡ []
@@ -71,8 +71,8 @@ loop-again c =
     let pre = at-loop .before .before .before .before .pre in
     (at-fill .fill .ensures .0, draw-blank _ (pre .1) _ _ (pre .2) _ _ _ (at-loop .loop .inv .1) (none-left at-if2) _ _ (at-fill .fill .ensures .1))
 
-segment-at-requires : At tie.Need-segment-at-requires
-segment-at-requires c κs = here c .segment
+read-segment-requires : At tie.Need-read-segment-requires
+read-segment-requires c κs = here c .segment
 
 fill-requires-2 : At tie.Need-fill-requires-2
 fill-requires-2 c κs = ready (c .before .before .before .before .before .before .before .before)
@@ -85,29 +85,29 @@ fill-requires-3 c κs =
 
 end-of-requires : At tie.Need-end-of-requires
 end-of-requires c κs =
-    let at-segment-at = c .before .before .before .before .before .before .before .before .before .before .before in
-    let l = at-segment-at .before .before .before .before .before in
-    omega (arith, inside at-segment-at, l .before .before .before .shared-slice-known .given (length (rowIn l)))
+    let at-read-segment = c .before .before .before .before .before .before .before .before .before .before .before in
+    let l = at-read-segment .before .before .before .before .before in
+    omega (arith, inside at-read-segment, l .before .before .before .shared-slice-known .given (length (rowIn l)))
 
 loop-less-2 : At tie.Need-loop-less-2
 loop-less-2 c =
     let at-fill3 = c .before .before .before in
     let at-fill2 = at-fill3 .before .before .before .before .before in
-    let at-segment-at = at-fill2 .before .before .before .before in
-    let after = end-after (here (at-segment-at .before)) (at-segment-at .segment-at .ensures) in
-    omega (arith, inside at-segment-at, after, at-fill2 .fill2 .ensures .1 .after, at-fill3 .fill3 .ensures .1 .after, c .end-of .ensures)
+    let at-read-segment = at-fill2 .before .before .before .before in
+    let after = end-after (here (at-read-segment .before)) (at-read-segment .read-segment .ensures) in
+    omega (arith, inside at-read-segment, after, at-fill2 .fill2 .ensures .1 .after, at-fill3 .fill3 .ensures .1 .after, c .end-of .ensures)
 
 loop-again-2 : At tie.Need-loop-again-2
 loop-again-2 c =
     let at-fill3 = c .before .before .before in
     let at-glyph-of = at-fill3 .before in
     let at-fill2 = at-glyph-of .before .before .before .before in
-    let at-segment-at = at-fill2 .before .before .before .before in
-    let at-if2 = at-segment-at .before in
+    let at-read-segment = at-fill2 .before .before .before .before in
+    let at-if2 = at-read-segment .before in
     let at-loop = at-if2 .before .before .before .before in
     let pre = at-loop .before .before .before .before .pre in
     let drawn =
-    draw-on _ (pre .1) _ _ (pre .2) _ _ _ (at-loop .loop .inv .1) _ (at-segment-at .segment-at .ensures) (here at-if2)
+    draw-on _ (pre .1) _ _ (pre .2) _ _ _ (at-loop .loop .inv .1) _ (at-read-segment .read-segment .ensures) (here at-if2)
     _ _ _ _ _ (at-fill2 .fill2 .ensures .1) (at-glyph-of .glyph-of .ensures) (at-fill3 .fill3 .ensures .1) in
     (at-fill3 .fill3 .ensures .0, rw (c .end-of .ensures) drawn)
 
@@ -128,7 +128,7 @@ put-cells-spec =
     fill-requires
     loop-less
     loop-again
-    segment-at-requires
+    read-segment-requires
     fill-requires-2
     (λ c κs. tt)
     fill-requires-3

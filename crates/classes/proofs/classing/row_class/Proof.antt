@@ -53,31 +53,31 @@ returns-3 c =
     let at-stands-at = c .before .before in
     along-mark _ _ _ _ (at-stands-at .before .loop .inv) (tells at-stands-at (c .enum-told3 .given .1))
 
-segment-at-requires : At tie.Need-segment-at-requires
-segment-at-requires c κs = tells (c .before .before) (c .enum-told4 .given .1) .segment
+read-segment-requires : At tie.Need-read-segment-requires
+read-segment-requires c κs = tells (c .before .before) (c .enum-told4 .given .1) .segment
 
 loop-less : At tie.Need-loop-less
 loop-less c =
-    let at-segment-at = c .before .before .before in
-    let at-enum-told4 = at-segment-at .before in
+    let at-read-segment = c .before .before .before in
+    let at-enum-told4 = at-read-segment .before in
     let at-stands-at = at-enum-told4 .before .before in
-    segment-after (at-stands-at .before .loop .inv .going) (tells at-stands-at (at-enum-told4 .enum-told4 .given .1)) (at-segment-at .segment-at .ensures)
+    segment-after (at-stands-at .before .loop .inv .going) (tells at-stands-at (at-enum-told4 .enum-told4 .given .1)) (at-read-segment .read-segment .ensures)
 
 loop-again : At tie.Need-loop-again
 loop-again c =
     let at-first = c .before in
     let at-class-in = at-first .before in
-    let at-segment-at = at-class-in .before in
-    let at-enum-told4 = at-segment-at .before in
+    let at-read-segment = at-class-in .before in
+    let at-enum-told4 = at-read-segment .before in
     let at-stands-at = at-enum-told4 .before .before in
     along-segment _ _ _ _ (at-stands-at .before .loop .inv) (tells at-stands-at (at-enum-told4 .enum-told4 .given .1))
-    (at-segment-at .segment-at .ensures) (at-class-in .class-in .ensures) (at-first .first .ensures)
+    (at-read-segment .read-segment .ensures) (at-class-in .class-in .ensures) (at-first .first .ensures)
 
-event-at-requires : At tie.Need-event-at-requires
-event-at-requires c κs = tells (c .before .before) (c .enum-told5 .given .1) .inside
+read-event-requires : At tie.Need-read-event-requires
+read-event-requires c κs = tells (c .before .before) (c .enum-told5 .given .1) .inside
 
 -- what follows from the event
-happens : (c : At tie.After-event-at)
+happens : (c : At tie.After-read-event)
     → let at-stands-at = c .before .before .before in
     let args = at-stands-at .before .before .before .args in
     let now = at-stands-at .before .loop in
@@ -88,10 +88,10 @@ sub-waiting : At tie.Need-sub-waiting
 sub-waiting c = omega (arith, happens c .some)
 
 loop-less-2 : At tie.Need-loop-less-2
-loop-less-2 c = omega (arith, happens c .inside, c .event-at .ensures .2)
+loop-less-2 c = omega (arith, happens c .inside, c .read-event .ensures .2)
 
 loop-again-2 : At tie.Need-loop-again-2
-loop-again-2 c = along-event _ _ _ _ (c .before .before .before .before .loop .inv) (happens c) (c .event-at .ensures .2)
+loop-again-2 c = along-event _ _ _ _ (c .before .before .before .before .loop .inv) (happens c) (c .read-event .ensures .2)
 
 pub row-class-spec : {M : Type 1} → statement M
 row-class-spec =
@@ -109,13 +109,13 @@ row-class-spec =
     add-behind
     returns-3
     (λ c. search needs)
-    segment-at-requires
+    read-segment-requires
     (λ c κs. tt)
     (λ c κs. tt)
     loop-less
     loop-again
     (λ c. search needs)
-    event-at-requires
+    read-event-requires
     sub-waiting
     loop-less-2
     loop-again-2)

@@ -21,7 +21,7 @@ returns-2 c =
     let at-start = at-to-utc-at2 .before .before .before .before in
     let args = at-start .args in
     (at-to-utc-at2 .to-utc-at2 .ensures) ∙ ap
-    (λ (i : ℕ). boundaryAt (zoneOf (args .first) (args .ats .now) (args .offsets .now)) i 0 (args .published)) (add-one (args .d .0))
+    (λ (i : ℕ). boundaryAt (zoneOf (args .offset0) (args .ats .now) (args .offsets .now)) i 0 (args .published)) (add-one (args .d .0))
 
 pub midnight-after-spec : {M : Type 1} → statement M
 midnight-after-spec =

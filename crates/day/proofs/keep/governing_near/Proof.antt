@@ -27,14 +27,14 @@ now-keeps c =
     let at-start = at-if1 .before .before .before .before in
     rw (now-is c .0) (after-keeps _ (at-start .args .rules .now) (at-start .args .kept .now) (at-start .args .d .0) (at-start .pre .0) (at-if1 .if1 .left) (at-start .pre .2) (at-start .pre .1))
 
-governing-requires : tie.Need-governing-requires
-governing-requires c κs = search needs
+governing-rule-requires : tie.Need-governing-rule-requires
+governing-rule-requires c κs = search needs
 
 returns : tie.Need-returns
 returns c =
     let at-if1 = c .before in
     let at-start = at-if1 .before .before .before .before in
-    let told = c .governing .ensures in
+    let told = c .governing-rule .ensures in
     (told .0, told .1, told .2, at-start .pre .1, after-many _ (at-start .args .rules .now) _ _ (at-start .pre .0) (at-if1 .if1 .taken))
 
 slice-read-if2 : tie.Need-slice-read-if2
@@ -62,19 +62,19 @@ add-end c =
     let at-slice-known5 = c in
     omega (arith, (at-slice-known5 .slice-known5 .given) 2)
 
-sub-governing : tie.Need-sub-governing
-sub-governing c = search needs
+sub-governing-rule : tie.Need-sub-governing-rule
+sub-governing-rule c = search needs
 
-part-governing-start : tie.Need-part-governing-start
-part-governing-start c = search needs
+part-governing-rule-start : tie.Need-part-governing-rule-start
+part-governing-rule-start c = search needs
 
-part-governing-end : tie.Need-part-governing-end
-part-governing-end c =
+part-governing-rule-end : tie.Need-part-governing-rule-end
+part-governing-rule-end c =
     let at-if2 = c .before .before in
     now-keeps at-if2 .keeps .fits
 
-governing-requires-2 : tie.Need-governing-requires-2
-governing-requires-2 c κs =
+governing-rule-requires-2 : tie.Need-governing-rule-requires-2
+governing-rule-requires-2 c κs =
     let at-if2 = c .before .before .before in
     part-listed (now-keeps at-if2 .keeps)
 
@@ -85,18 +85,18 @@ same-length c =
 
 returns-2 : tie.Need-returns-2
 returns-2 c =
-    let at-governing2 = c in
-    let at-if2 = at-governing2 .before .before .before .before in
+    let at-governing-rule2 = c in
+    let at-if2 = at-governing-rule2 .before .before .before .before in
     let k = now-keeps at-if2 in
-    let told = at-governing2 .governing2 .ensures in
-    let is = part-chosen k (at-governing2 .governing2 .result) (told .1) (told .2) in
+    let told = at-governing-rule2 .governing-rule2 .ensures in
+    let is = part-chosen k (at-governing-rule2 .governing-rule2 .result) (told .1) (told .2) in
     (is .0, is .1, is .2, k .keeps, now-is at-if2 .0)
 
 pub governing-near-spec : {M : Type 1} → statement M
 governing-near-spec =
     tie.close
     (tie.spec
-    governing-requires
+    governing-rule-requires
     returns
     slice-read-if2
     slice-read-if2-2
@@ -104,9 +104,9 @@ governing-near-spec =
     slice-read-end
     cast-end
     add-end
-    sub-governing
-    part-governing-start
-    part-governing-end
-    governing-requires-2
+    sub-governing-rule
+    part-governing-rule-start
+    part-governing-rule-end
+    governing-rule-requires-2
     same-length
     returns-2)

@@ -15,7 +15,7 @@ returns c =
     let at-if1 = c in
     let at-start = at-if1 .before .before .before .before .before in
     let args = at-start .args in (
-      sym (ap length (none-found (zoneOf (args .first) (args .ats .now) (args .offsets .now)) (args .book .now) (args .events .now) (args .from .0)
+      sym (ap length (none-found (zoneOf (args .offset0) (args .ats .now) (args .offsets .now)) (args .book .now) (args .events .now) (args .from .0)
           (args .to .0) (omega (arith, (at-if1 .if1 .taken))))),
       omega arith,
     )
@@ -27,9 +27,9 @@ returns-2 c =
     let at-start = at-collect .before .before .before .before .before .before .before .before in
     let pre = at-start .pre in
     let args = at-start .args in
-    let all = collects-all (args .book .now) (args .first) (args .ats .now) (args .offsets .now) (args .events .now) (pre .0) (pre .1) (args .from .0)
+    let all = collects-all (args .book .now) (args .offset0) (args .ats .now) (args .offsets .now) (args .events .now) (pre .0) (pre .1) (args .from .0)
     (args .to .0) (at-collect .collect .ensures) (at-n .n .given .1) in
-    let few = found-few (args .book .now) (args .first) (args .ats .now) (args .offsets .now) (args .events .now) (pre .0) (pre .1) (pre .2)
+    let few = found-few (args .book .now) (args .offset0) (args .ats .now) (args .offsets .now) (args .events .now) (pre .0) (pre .1) (pre .2)
     (args .from .0) (args .to .0) in
     (all .count, omega (arith, all .count, few))
 

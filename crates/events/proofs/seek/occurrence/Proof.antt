@@ -13,7 +13,7 @@ returns c =
     let at-event-uncertainty = at-to-utc-at .before in
     let at-start = at-event-uncertainty .before .before .before .before in
     let args = at-start .args in
-    occurrence-by (zoneOf (args .first) (args .ats .now) (args .offsets .now)) (args .d .0) (args .time) (eventAt (args .book .now) (args .event)) _ _
+    occurrence-by (zoneOf (args .offset0) (args .ats .now) (args .offsets .now)) (args .d .0) (args .time) (eventAt (args .book .now) (args .event)) _ _
     _ _ (at-event-uncertainty .event-uncertainty .ensures) (at-to-utc-at .to-utc-at .ensures) (at-event-code .event-code .ensures)
     (at-event-evidence .event-evidence .ensures)
 

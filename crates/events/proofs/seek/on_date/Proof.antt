@@ -58,7 +58,7 @@ loop-again c =
     let at-loop-test = at-event-first .before .before in
     let at-loop = at-loop-test .before in
     let at-start = at-loop .before .before .before .before .before in
-    let z = zoneOf (at-start .args .first) (at-start .args .ats .now) (at-start .args .offsets .now) in
+    let z = zoneOf (at-start .args .offset0) (at-start .args .ats .now) (at-start .args .offsets .now) in
     ⊎-elim (λ w. event-met z _ _ _ _ _ (at-loop .loop .inv) (at-loop-test .loop-test .taken) refl (at-event-first .event-first .ensures .0)
     (at-event-last .event-last .ensures .0) (w .0 .taken) (w .1 .ensures .0) (w .1 .ensures .1) (w .2)) (λ w. event-passed z _ _ _ _ _
     (at-loop .loop .inv) (at-loop-test .loop-test .taken) refl (at-event-first .event-first .ensures .0) (at-event-last .event-last .ensures .0)

@@ -22,15 +22,15 @@ here : (c : At tie.In-loop) → Segmented (c .before .before .before .args .answ
 here c = segmented _ _ (c .before .loop .inv .here) (c .loop-test .taken)
 
 -- it and its events end behind the place
-after : (c : At tie.After-segment-at) → (c .before .before .loop .at) < endOf (c .segment-at .result)
-after c = end-after (here (c .before)) (c .segment-at .ensures)
+after : (c : At tie.After-read-segment) → (c .before .before .loop .at) < endOf (c .read-segment .result)
+after c = end-after (here (c .before)) (c .read-segment .ensures)
 
 -- and in the answer
-inside : (c : At tie.After-segment-at) → endOf (c .segment-at .result) ≤ length (c .before .before .before .before .args .answer .now)
-inside c = end-inside (here (c .before)) (c .segment-at .ensures)
+inside : (c : At tie.After-read-segment) → endOf (c .read-segment .result) ≤ length (c .before .before .before .before .args .answer .now)
+inside c = end-inside (here (c .before)) (c .read-segment .ensures)
 
 -- which is no longer than a place can count
-short : (c : At tie.After-segment-at) → length (c .before .before .before .before .args .answer .now) < 2 ^ 64
+short : (c : At tie.After-read-segment) → length (c .before .before .before .before .args .answer .now) < 2 ^ 64
 short c =
     let at-shared-slice-known = c .before .before .before in
     omega (arith, at-shared-slice-known .shared-slice-known .given (length (at-shared-slice-known .before .args .answer .now)))
@@ -38,8 +38,8 @@ short c =
 loop-holds : At tie.Need-loop-holds
 loop-holds c = count-none (c .before .pre)
 
-segment-at-requires : At tie.Need-segment-at-requires
-segment-at-requires c κs = here c .segment
+read-segment-requires : At tie.Need-read-segment-requires
+read-segment-requires c κs = here c .segment
 
 add-seen : At tie.Need-add-seen
 add-seen c = omega (arith, c .before .before .loop .inv .few, after c, inside c, short c)
@@ -53,7 +53,7 @@ loop-less c = omega (arith, after (c .before), inside (c .before), c .end-of .en
 loop-again : At tie.Need-loop-again
 loop-again c =
     let l = c .before .before in
-    rw (c .end-of .ensures) (count-one (l .before .loop .inv) (here l) (c .before .segment-at .ensures))
+    rw (c .end-of .ensures) (count-one (l .before .loop .inv) (here l) (c .before .read-segment .ensures))
 
 returns : At tie.Need-returns
 returns c = count-over (c .before .loop .inv) (c .loop-test .left)
@@ -65,7 +65,7 @@ count-spec =
     Inv-loop
     μ-loop
     loop-holds
-    segment-at-requires
+    read-segment-requires
     add-seen
     end-of-requires
     loop-less

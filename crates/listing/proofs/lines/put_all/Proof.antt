@@ -26,38 +26,38 @@ here : (c : At tie.In-loop) → Segmented (c .before .before .before .before .ar
 here c = segmented _ _ (c .before .loop .inv .0) (c .loop-test .taken)
 
 -- it and its events lie in the answer
-inside : (c : At tie.After-segment-at) → endOf (c .segment-at .result) ≤ length (c .before .before .before .before .before .args .answer .now)
-inside c = end-inside (here (c .before)) (c .segment-at .ensures)
+inside : (c : At tie.After-read-segment) → endOf (c .read-segment .result) ≤ length (c .before .before .before .before .before .args .answer .now)
+inside c = end-inside (here (c .before)) (c .read-segment .ensures)
 
 loop-holds : At tie.Need-loop-holds
 loop-holds c = let at-start = c .before .before in (row-in _ (at-start .pre .0), begins _ _ _ (at-start .pre .1))
 
-segment-at-requires : At tie.Need-segment-at-requires
-segment-at-requires c κs = here c .segment
+read-segment-requires : At tie.Need-read-segment-requires
+read-segment-requires c κs = here c .segment
 
 put-segment-requires : At tie.Need-put-segment-requires
 put-segment-requires c κs =
-    let at-segment-at = c .before in
-    let l = at-segment-at .before in
-    (inside at-segment-at, fits-next _ (list-one (l .before .loop .inv .1) (here l) (at-segment-at .segment-at .ensures)))
+    let at-read-segment = c .before in
+    let l = at-read-segment .before in
+    (inside at-read-segment, fits-next _ (list-one (l .before .loop .inv .1) (here l) (at-read-segment .read-segment .ensures)))
 
 end-of-requires : At tie.Need-end-of-requires
 end-of-requires c κs =
-    let at-segment-at = c .before .before .before .before in
-    let at-shared-slice-known = at-segment-at .before .before .before .before in
-    omega (arith, inside at-segment-at, at-shared-slice-known .shared-slice-known .given (length (at-shared-slice-known .before .args .answer .now)))
+    let at-read-segment = c .before .before .before .before in
+    let at-shared-slice-known = at-read-segment .before .before .before .before in
+    omega (arith, inside at-read-segment, at-shared-slice-known .shared-slice-known .given (length (at-shared-slice-known .before .args .answer .now)))
 
 loop-less : At tie.Need-loop-less
 loop-less c =
-    let at-segment-at = c .before .before .before .before .before in
-    omega (arith, inside at-segment-at, end-after (here (at-segment-at .before)) (at-segment-at .segment-at .ensures), c .end-of .ensures)
+    let at-read-segment = c .before .before .before .before .before in
+    omega (arith, inside at-read-segment, end-after (here (at-read-segment .before)) (at-read-segment .read-segment .ensures), c .end-of .ensures)
 
 loop-again : At tie.Need-loop-again
 loop-again c =
     let at-put-segment = c .before .before .before in
-    let at-segment-at = at-put-segment .before .before in
-    let l = at-segment-at .before in
-    let e = at-segment-at .segment-at .ensures in
+    let at-read-segment = at-put-segment .before .before in
+    let l = at-read-segment .before in
+    let e = at-read-segment .read-segment .ensures in
     rw (c .end-of .ensures) (row-on (here l) e, goes-on (list-one (l .before .loop .inv .1) (here l) e) (at-put-segment .put-segment .ensures))
 
 returns : At tie.Need-returns
@@ -70,7 +70,7 @@ put-all-spec =
     Inv-loop
     μ-loop
     loop-holds
-    segment-at-requires
+    read-segment-requires
     put-segment-requires
     end-of-requires
     loop-less

@@ -1,5 +1,5 @@
 use Rattle.listing.specs.Text.{decimal, instant, fields}
-use Rattle.listing.specs.Private.{Fits}
+use Rattle.listing.specs.Private.{TextFits}
 use Rattle.listing.proofs.Writing.{front, rest, both}
 use mathlib.Core.List.{[], _∷_}
 use borrow.Author.Needs.{needs}
@@ -13,15 +13,15 @@ entry c = c .before .before .before
 -- behind each part of the line the others fit
 behind-word : (c : tie.After-put-byte)
     → let args = entry c .args in
-    Fits (c .put-byte .result) (fields (instant (args .when .0) ∷ decimal (args .code) ∷ [])) (c .put-byte .last .0)
+    TextFits (c .put-byte .result) (fields (instant (args .when .0) ∷ decimal (args .code) ∷ [])) (c .put-byte .last .0)
 behind-word c = rest (entry c .pre) (c .put-byte .ensures)
 
 behind-instant : (c : tie.After-put-instant)
     → let args = entry (c .before .before .before .before) .args in
-    Fits (c .put-instant .result) (fields (decimal (args .code) ∷ [])) (c .put-instant .last .0)
+    TextFits (c .put-instant .result) (fields (decimal (args .code) ∷ [])) (c .put-instant .last .0)
 behind-instant c = rest (behind-word (c .before .before .before .before)) (c .put-instant .ensures)
 
-behind-all : (c : tie.After-put-number) → Fits (c .put-number .result) (fields []) (c .put-number .last .0)
+behind-all : (c : tie.After-put-number) → TextFits (c .put-number .result) (fields []) (c .put-number .last .0)
 behind-all c = rest (behind-instant (c .before .before .before .before)) (c .put-number .ensures)
 
 put-instant-requires : tie.Need-put-instant-requires

@@ -26,17 +26,17 @@ loop-holds c = let at-start = c .before .before in (at-start .pre .0, begins _ _
 
 put-event-requires : At tie.Need-put-event-requires
 put-event-requires c κs =
-    let at-event-at = c .before .before in
-    let l = at-event-at .before in
-    let read = at-event-at .event-at .ensures in
+    let at-read-event = c .before .before in
+    let l = at-read-event .before in
+    let read = at-read-event .read-event .ensures in
     rw (same-event _ _ _ _ (read .0) (read .1)) (fits-next _ (event-one _ _ _ (l .loop-test .taken) (l .before .loop .inv .1)))
 
 loop-again : At tie.Need-loop-again
 loop-again c =
     let at-put-event = c .before .before in
-    let at-event-at = at-put-event .before .before .before in
-    let l = at-event-at .before in
-    let read = at-event-at .event-at .ensures in
+    let at-read-event = at-put-event .before .before .before in
+    let l = at-read-event .before in
+    let read = at-read-event .read-event .ensures in
     rw (read .2) (
       omega (arith, l .loop-test .taken, l .before .loop .inv .0),
       goes-on (event-one _ _ _ (l .loop-test .taken) (l .before .loop .inv .1)) (event-put _ _ _ _ (read .0) (read .1) (at-put-event .put-event .ensures)),

@@ -1,6 +1,6 @@
 use Rattle.listing.specs.Listing.{headLine}
 use Rattle.listing.specs.Text.{decimal, fields}
-use Rattle.listing.specs.Private.{Fits}
+use Rattle.listing.specs.Private.{TextFits}
 use Rattle.listing.proofs.Writing.{front, rest, both}
 use mathlib.Core.List.{[], _∷_}
 use borrow.Author.Needs.{needs}
@@ -14,17 +14,17 @@ entry c = c .before .before .before .before
 -- behind each part of the line the others fit
 behind-word : (c : tie.After-put-word)
     → let args = entry c .args in
-    Fits (c .put-word .result) (fields (decimal (args .number) ∷ decimal (args .count) ∷ [])) (c .put-word .last .0)
+    TextFits (c .put-word .result) (fields (decimal (args .number) ∷ decimal (args .count) ∷ [])) (c .put-word .last .0)
 unfolding headLine
 behind-word c = rest (entry c .pre) (c .put-word .ensures)
 
 behind-number : (c : tie.After-put-number)
     → let args = entry (c .before .before .before .before) .args in
-    Fits (c .put-number .result) (fields (decimal (args .count) ∷ [])) (c .put-number .last .0)
+    TextFits (c .put-number .result) (fields (decimal (args .count) ∷ [])) (c .put-number .last .0)
 unfolding headLine
 behind-number c = rest (behind-word (c .before .before .before .before)) (c .put-number .ensures)
 
-behind-all : (c : tie.After-put-number2) → Fits (c .put-number2 .result) (fields []) (c .put-number2 .last .0)
+behind-all : (c : tie.After-put-number2) → TextFits (c .put-number2 .result) (fields []) (c .put-number2 .last .0)
 unfolding headLine
 behind-all c = rest (behind-number (c .before .before .before .before)) (c .put-number2 .ensures)
 

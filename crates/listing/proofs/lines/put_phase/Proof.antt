@@ -1,5 +1,5 @@
 use Rattle.listing.specs.Text.{decimal, instant, fields}
-use Rattle.listing.specs.Private.{Fits}
+use Rattle.listing.specs.Private.{TextFits}
 use Rattle.listing.proofs.Writing.{front, rest, both}
 use mathlib.Core.List.{[], _∷_}
 use borrow.Author.Needs.{needs}
@@ -13,25 +13,25 @@ entry c = c .before .before .before
 -- behind each part of the line the others fit
 behind-word : (c : tie.After-put-byte)
     → let args = entry c .args in
-    Fits (c .put-byte .result) (fields (instant (args .from .0) ∷ instant (args .to .0) ∷ decimal (args .p) ∷ decimal (args .evidence) ∷ [])) (c .put-byte .last .0)
+    TextFits (c .put-byte .result) (fields (instant (args .from .0) ∷ instant (args .to .0) ∷ decimal (args .p) ∷ decimal (args .evidence) ∷ [])) (c .put-byte .last .0)
 behind-word c = rest (entry c .pre) (c .put-byte .ensures)
 
 behind-from : (c : tie.After-put-instant)
     → let args = entry (c .before .before .before .before) .args in
-    Fits (c .put-instant .result) (fields (instant (args .to .0) ∷ decimal (args .p) ∷ decimal (args .evidence) ∷ [])) (c .put-instant .last .0)
+    TextFits (c .put-instant .result) (fields (instant (args .to .0) ∷ decimal (args .p) ∷ decimal (args .evidence) ∷ [])) (c .put-instant .last .0)
 behind-from c = rest (behind-word (c .before .before .before .before)) (c .put-instant .ensures)
 
 behind-to : (c : tie.After-put-instant2)
     → let args = entry (c .before .before .before .before .before .before .before .before) .args in
-    Fits (c .put-instant2 .result) (fields (decimal (args .p) ∷ decimal (args .evidence) ∷ [])) (c .put-instant2 .last .0)
+    TextFits (c .put-instant2 .result) (fields (decimal (args .p) ∷ decimal (args .evidence) ∷ [])) (c .put-instant2 .last .0)
 behind-to c = rest (behind-from (c .before .before .before .before)) (c .put-instant2 .ensures)
 
 behind-phase : (c : tie.After-put-number)
     → let args = entry (c .before .before .before .before .before .before .before .before .before .before .before .before) .args in
-    Fits (c .put-number .result) (fields (decimal (args .evidence) ∷ [])) (c .put-number .last .0)
+    TextFits (c .put-number .result) (fields (decimal (args .evidence) ∷ [])) (c .put-number .last .0)
 behind-phase c = rest (behind-to (c .before .before .before .before)) (c .put-number .ensures)
 
-behind-all : (c : tie.After-put-number2) → Fits (c .put-number2 .result) (fields []) (c .put-number2 .last .0)
+behind-all : (c : tie.After-put-number2) → TextFits (c .put-number2 .result) (fields []) (c .put-number2 .last .0)
 behind-all c = rest (behind-phase (c .before .before .before .before)) (c .put-number2 .ensures)
 
 put-instant-requires : tie.Need-put-instant-requires

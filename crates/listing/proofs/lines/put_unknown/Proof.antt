@@ -1,5 +1,5 @@
 use Rattle.listing.specs.Text.{instant, fields}
-use Rattle.listing.specs.Private.{Fits}
+use Rattle.listing.specs.Private.{TextFits}
 use Rattle.listing.proofs.Writing.{front, rest, both}
 use mathlib.Core.List.{[], _∷_}
 use borrow.Author.Needs.{needs}
@@ -13,15 +13,15 @@ entry c = c .before .before .before
 -- behind each part of the line the others fit
 behind-word : (c : tie.After-put-byte)
     → let args = entry c .args in
-    Fits (c .put-byte .result) (fields (instant (args .from .0) ∷ instant (args .to .0) ∷ [])) (c .put-byte .last .0)
+    TextFits (c .put-byte .result) (fields (instant (args .from .0) ∷ instant (args .to .0) ∷ [])) (c .put-byte .last .0)
 behind-word c = rest (entry c .pre) (c .put-byte .ensures)
 
 behind-from : (c : tie.After-put-instant)
     → let args = entry (c .before .before .before .before) .args in
-    Fits (c .put-instant .result) (fields (instant (args .to .0) ∷ [])) (c .put-instant .last .0)
+    TextFits (c .put-instant .result) (fields (instant (args .to .0) ∷ [])) (c .put-instant .last .0)
 behind-from c = rest (behind-word (c .before .before .before .before)) (c .put-instant .ensures)
 
-behind-all : (c : tie.After-put-instant2) → Fits (c .put-instant2 .result) (fields []) (c .put-instant2 .last .0)
+behind-all : (c : tie.After-put-instant2) → TextFits (c .put-instant2 .result) (fields []) (c .put-instant2 .last .0)
 behind-all c = rest (behind-from (c .before .before .before .before)) (c .put-instant2 .ensures)
 
 put-instant-requires : tie.Need-put-instant-requires

@@ -7,7 +7,7 @@ use borrow.Author.Needs.{needs}
 use borrow.Fn.Kinds.{In, Out}
 use borrow.Fn.PlainCycle.{Measures, is, falls, and}
 use Rattle.listing.specs.Text.{digit, decimal}
-use Rattle.listing.specs.Private.{Fits}
+use Rattle.listing.specs.Private.{TextFits}
 use Rattle.listing.proofs.Writing.{front, rest, both}
 use Rattle.listing.proofs.Numbers.{decimal-one, decimal-more}
 use Rattle.listing.proofs.text.put_digit.Reads as put-digit
@@ -35,7 +35,7 @@ more : {t : ℕ} (c : At t places.Else1) → let n = c .before .before .args .n 
 more c = decimal-more (c .before .before .args .n) (omega (arith, c .if1 .left))
 
 fits : {t : ℕ} (c : At t places.Else1)
-    → let args = c .before .before .args in Fits (args .at) (decimal (args .n / 10) ++ (digit (args .n % 10) ∷ [])) (args .out .now)
+    → let args = c .before .before .args in TextFits (args .at) (decimal (args .n / 10) ++ (digit (args .n % 10) ∷ [])) (args .out .now)
 fits c = rw (more c) at (c .before .before .pre .1)
 
 put-digit-requires : (t : ℕ) → At t places.Need-put-digit-requires

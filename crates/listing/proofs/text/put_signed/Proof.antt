@@ -1,6 +1,6 @@
 use Rattle.listing.proofs.Numbers.{instant-negative, instant-natural}
 use Rattle.listing.specs.Text.{minus, decimal}
-use Rattle.listing.specs.Private.{Fits}
+use Rattle.listing.specs.Private.{TextFits}
 use mathlib.Core.List.{_∷_}
 use Rattle.wire.specs.Signs.{half}
 use mir.Syntax.{w64}
@@ -12,10 +12,10 @@ use Rattle.listing.proofs.text.put_signed.Statement.{statement}
 use Rattle.listing.proofs.text.put_signed.Tie as tie
 
 -- a negative one has its sign, and any other only its digits
-negative : (c : tie.Then1) → let args = c .before .before .args in Fits (args .at) (minus ∷ decimal (half w64 - args .p .0)) (args .out .now)
+negative : (c : tie.Then1) → let args = c .before .before .args in TextFits (args .at) (minus ∷ decimal (half w64 - args .p .0)) (args .out .now)
 negative c = rw (instant-negative (c .before .before .args .p .0) (c .if1 .taken)) at (c .before .before .pre)
 
-natural : (c : tie.Else1) → let args = c .before .before .args in Fits (args .at) (decimal (args .p .0 - half w64)) (args .out .now)
+natural : (c : tie.Else1) → let args = c .before .before .args in TextFits (args .at) (decimal (args .p .0 - half w64)) (args .out .now)
 natural c = rw (instant-natural (c .before .before .args .p .0) (omega (arith, c .if1 .left))) at (c .before .before .pre)
 
 put-byte-requires : tie.Need-put-byte-requires

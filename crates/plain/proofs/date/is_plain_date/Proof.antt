@@ -1,5 +1,5 @@
 use Rattle.plain.proofs.Looking.{date-by}
-use Rattle.day.specs.Governing.{governing}
+use Rattle.day.specs.Governing.{governingRule}
 use Rattle.records.specs.Records.{ruleAt}
 use Rattle.zone.specs.declared.Boundary.{Boundary}
 use Rattle.zone.specs.Zone.{zoneOf}
@@ -15,7 +15,7 @@ returns c =
     let at-midnight-after = at-in-order .before .before .before .before .before in
     let at-to-utc-at = at-midnight-after .before in
     let args = at-to-utc-at .before .before .before .before .before .args in
-    date-by (zoneOf (args .first) (args .ats .now) (args .offsets .now)) (governing (map (ruleAt (args .book .now)) (args .rules .now))) (args .d .0)
+    date-by (zoneOf (args .offset0) (args .ats .now) (args .offsets .now)) (governingRule (map (ruleAt (args .book .now)) (args .rules .now))) (args .d .0)
     (ap (λ (b : Boundary). b .at .0) (at-to-utc-at .to-utc-at .ensures)) (ap (λ (b : Boundary). b .at .0) (at-midnight-after .midnight-after .ensures))
     (at-in-order .in-order .ensures) (c .reads-throughout .ensures)
 

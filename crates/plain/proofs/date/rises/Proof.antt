@@ -35,7 +35,7 @@ abbrev pointsIn : At tie.At-loop → List Point
 pointsIn c = ruleAt (entry c .args .book .now) (entry c .args .rule) .points
 
 abbrev when : At tie.At-loop → ℕ → ℕ
-when c = let args = entry c .args in takenAt (zoneOf (args .first) (args .ats .now) (args .offsets .now)) (args .d .0)
+when c = let args = entry c .args in takenAt (zoneOf (args .offset0) (args .ats .now) (args .offsets .now)) (args .d .0)
 
 -- a point is left
 more : (c : At tie.In-loop) → c .before .loop .i < length (pointsIn (c .before))
@@ -48,7 +48,7 @@ found : (c : At tie.After-to-utc-at)
 found c =
     let args = entry (c .before .before .before) .args in
     ap (λ (b : Boundary). b .at .0)
-    ((c .to-utc-at .ensures) ∙ ap (λ (x : ℕ). boundaryAt (zoneOf (args .first) (args .ats .now) (args .offsets .now)) (args .d .0) x Exact) (c .before .point-time .ensures .0))
+    ((c .to-utc-at .ensures) ∙ ap (λ (x : ℕ). boundaryAt (zoneOf (args .offset0) (args .ats .now) (args .offsets .now)) (args .d .0) x Exact) (c .before .point-time .ensures .0))
 
 rule-points-requires : At tie.Need-rule-points-requires
 rule-points-requires c κs = c .before .before .before .pre .1

@@ -1,5 +1,5 @@
 use Rattle.plain.proofs.Looking.{no-yesterday, early-start, as-run}
-use Rattle.day.specs.Governing.{governing}
+use Rattle.day.specs.Governing.{governingRule}
 use Rattle.records.specs.Records.{Rule, ruleAt}
 use Rattle.zone.proofs.Domain.{date-small}
 use Rattle.zone.specs.declared.Boundary.{Boundary}
@@ -19,10 +19,10 @@ abbrev entry : tie.After-day-at → tie.Start
 entry c = c .before .before .before .before .before
 
 abbrev zoneIn : tie.After-day-at → Zone
-zoneIn c = let args = entry c .args in zoneOf (args .first) (args .ats .now) (args .offsets .now)
+zoneIn c = let args = entry c .args in zoneOf (args .offset0) (args .ats .now) (args .offsets .now)
 
 abbrev rulesIn : tie.After-day-at → ℕ → Option Rule
-rulesIn c = governing (map (ruleAt (entry c .args .book .now)) (entry c .args .rules .now))
+rulesIn c = governingRule (map (ruleAt (entry c .args .book .now)) (entry c .args .rules .now))
 
 -- the midnight of the date
 begins : (c : tie.After-to-utc-at)

@@ -2,7 +2,7 @@ use Rattle.plain.proofs.Looking.{look-plain, look-not}
 use Rattle.plain.proofs.Steady.{until-plain}
 use Rattle.plain.specs.Private.{PlainUntil}
 use Rattle.day.specs.Days.{venueBy}
-use Rattle.day.specs.Governing.{governing}
+use Rattle.day.specs.Governing.{governingRule}
 use Rattle.records.specs.Records.{Rule, ruleAt}
 use Rattle.zone.specs.Zone.{Zone, zoneOf}
 use native.Mathlib.Omega.{arith}
@@ -19,10 +19,10 @@ abbrev entry : tie.After-steady-until → tie.Start
 entry c = c .before .before .before .before .before
 
 abbrev zoneIn : tie.Start → Zone
-zoneIn c = zoneOf (c .args .first) (c .args .ats .now) (c .args .offsets .now)
+zoneIn c = zoneOf (c .args .offset0) (c .args .ats .now) (c .args .offsets .now)
 
 abbrev rulesIn : tie.Start → ℕ → Option Rule
-rulesIn c = governing (map (ruleAt (c .args .book .now)) (c .args .rules .now))
+rulesIn c = governingRule (map (ruleAt (c .args .book .now)) (c .args .rules .now))
 
 -- the dates before it
 steady : (c : tie.After-steady-until) (r : ℕ)
@@ -32,7 +32,7 @@ steady c r h i j =
     let s = entry c in
     record {
       most = i;
-      run = λ e a b. until-plain (s .args .book .now) (s .args .first) (s .args .ats .now) (s .args .offsets .now) (s .args .rules .now) (s .pre .0) (s .pre .1)
+      run = λ e a b. until-plain (s .args .book .now) (s .args .offset0) (s .args .ats .now) (s .args .offsets .now) (s .args .rules .now) (s .pre .0) (s .pre .1)
           (s .args .d .0) e a (omega (arith, b, j, c .steady-until .ensures));
       stops = λ l. absurd (omega (arith, h, l));
     }

@@ -1,6 +1,6 @@
 use Rattle.plain.proofs.Looking.{left, left-first, left-none, left-stops, left-ends, left-goes}
 use Rattle.plain.specs.Deciding.{takenAt, reaches, mostDates}
-use Rattle.day.specs.Governing.{governing}
+use Rattle.day.specs.Governing.{governingRule}
 use Rattle.records.specs.Records.{Rule, ruleAt}
 use Rattle.zone.specs.declared.Boundary.{Boundary}
 use Rattle.zone.specs.Zone.{Zone, zoneOf}
@@ -16,7 +16,7 @@ use Rattle.plain.proofs.window.reaches.Tie as tie
 abbrev Inv-loop : tie.InvT-loop
 Inv-loop book first ats offsets rules end last date₀ date =
     let z = zoneOf first ats offsets in
-    let g = governing (map (ruleAt book) rules) in
+    let g = governingRule (map (ruleAt book) rules) in
     (date .0 ≤ last .0) × (left z g (end .0) (last .0) (date₀ .0) ≡ left z g (end .0) (last .0) (date .0))
 
 abbrev μ-loop : tie.MeasureT-loop
@@ -31,10 +31,10 @@ abbrev entry : At tie.At-loop → At tie.Start
 entry c = c .before .before .before .before .before .before
 
 abbrev zoneIn : At tie.Start → Zone
-zoneIn c = zoneOf (c .args .first) (c .args .ats .now) (c .args .offsets .now)
+zoneIn c = zoneOf (c .args .offset0) (c .args .ats .now) (c .args .offsets .now)
 
 abbrev rulesIn : At tie.Start → ℕ → Option Rule
-rulesIn c = governing (map (ruleAt (c .args .book .now)) (c .args .rules .now))
+rulesIn c = governingRule (map (ruleAt (c .args .book .now)) (c .args .rules .now))
 
 -- a turn of the loop, from where one look was made
 abbrev turn : At tie.After-plain-until → At tie.At-loop

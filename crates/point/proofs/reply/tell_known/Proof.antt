@@ -1,6 +1,6 @@
 use Rattle.lend.proofs.Replies.{lent-short, lent-written, lent-reply}
-use Rattle.tell.specs.Shown.{Shown, shown, shownForms, headForm}
-use Rattle.tell.proofs.Showing.{shown-length, shown-put}
+use Rattle.span_records.specs.Shown.{Shown, shown, shownForms, headForm}
+use Rattle.span_records.proofs.Showing.{shown-length, shown-put}
 use Rattle.events.proofs.Order.{length-sorted}
 use Rattle.answer.specs.Forms.{encodeAll, phaseSize, eventSize}
 use Rattle.answer.specs.Meaning.{phaseOf}
@@ -24,7 +24,7 @@ start c = c .before .before .before .before .before .before .before .before .bef
 abbrev shownIn : tie.Start → Shown
 shownIn c =
     let book = c .args .book .now in
-    let zone = zoneOf (c .args .first) (c .args .ats .now) (c .args .offsets .now) in
+    let zone = zoneOf (c .args .offset0) (c .args .ats .now) (c .args .offsets .now) in
     shown zone (map (eventAt book) (c .args .events .now)) (heldBy book (c .args .g))
 
 abbrev answer : tie.Start → List ℕ

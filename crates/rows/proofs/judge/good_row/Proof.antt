@@ -44,22 +44,22 @@ returns-2 c =
 returns-3 : At tie.Need-returns-3
 returns-3 c = absurd (untrue (tells (c .before .before) (c .enum-told3 .given .1) .allowed))
 
-segment-at-requires : At tie.Need-segment-at-requires
-segment-at-requires c κs = tells (c .before .before) (c .enum-told4 .given .1) .segment
+read-segment-requires : At tie.Need-read-segment-requires
+read-segment-requires c κs = tells (c .before .before) (c .enum-told4 .given .1) .segment
 
 loop-less : At tie.Need-loop-less
 loop-less c =
-    let at-segment-at = c .before in
-    let at-enum-told4 = at-segment-at .before in
+    let at-read-segment = c .before in
+    let at-enum-told4 = at-read-segment .before in
     let at-stands-at = at-enum-told4 .before .before in
-    segment-after (at-stands-at .before .loop .inv) (tells at-stands-at (at-enum-told4 .enum-told4 .given .1)) (at-segment-at .segment-at .ensures)
+    segment-after (at-stands-at .before .loop .inv) (tells at-stands-at (at-enum-told4 .enum-told4 .given .1)) (at-read-segment .read-segment .ensures)
 
 loop-again : At tie.Need-loop-again
 loop-again c =
-    let at-segment-at = c .before in
-    let at-enum-told4 = at-segment-at .before in
+    let at-read-segment = c .before in
+    let at-enum-told4 = at-read-segment .before in
     let at-stands-at = at-enum-told4 .before .before in
-    segment-going (at-stands-at .before .loop .inv) (tells at-stands-at (at-enum-told4 .enum-told4 .given .1)) (at-segment-at .segment-at .ensures)
+    segment-going (at-stands-at .before .loop .inv) (tells at-stands-at (at-enum-told4 .enum-told4 .given .1)) (at-read-segment .read-segment .ensures)
 
 add-at : At tie.Need-add-at
 add-at c =
@@ -97,7 +97,7 @@ good-row-spec =
     (λ c. search needs)
     returns-3
     (λ c. search needs)
-    segment-at-requires
+    read-segment-requires
     loop-less
     loop-again
     (λ c. search needs)

@@ -5,12 +5,12 @@ use Rattle.tally.proofs.pass.put_tallies.Statement.{statement}
 use Rattle.tally.proofs.pass.put_tallies.Tie as tie
 
 -- the page is open, and it is known where the walk begins and ends
-opens : (c : tie.After-first-page)
+opens : (c : tie.After-first-row)
     → let at-later2 = c .before .before .before in
     let at-earlier = at-later2 .before .before .before in
     let args = at-earlier .before .before .before .before .before .before .before .before .before .args in
     Opens (args .book .now) (args .h) (args .ats .now) (args .offsets .now) (args .rules .now) (args .events .now) (args .start .0) (args .end .0) (args .out .now)
-    (c .first-page .result) (c .first-page .last .1 .1 .0) (c .first-page .last .1 .1 .1 .0)
+    (c .first-row .result) (c .first-row .last .1 .1 .0) (c .first-row .last .1 .1 .1 .0)
     (at-earlier .earlier .result) (at-later2 .before .before .later .result) (at-later2 .before .earlier2 .result) (at-later2 .later2 .result)
 opens c =
     let at-later2 = c .before .before .before in
@@ -22,7 +22,7 @@ opens c =
       covers = pre .1;
       order = pre .2;
       fits = pre .3;
-      first = c .first-page .ensures;
+      first = c .first-row .ensures;
       before-is = at-earlier .earlier .ensures;
       lo-is = at-later .later .ensures;
       hi-is = at-earlier2 .earlier2 .ensures;
@@ -39,9 +39,9 @@ stretch-requires c κs = venue-coming _ _ _ _ _ _ (opens (c .before .before .bef
 count-walk-requires : tie.Need-count-walk-requires
 count-walk-requires c κs =
     let at-stretch = c .before .before .before .before .before in
-    let at-first-page = at-stretch .before .before .before .before in
-    let ready = at-first-page .before .before .before .before .before .before .before .before .before .before .before .before .before .before .before .pre .0 in
-    (ready .zone, ready .rules-listed, venue-all-coming _ _ _ _ _ _ (opens at-first-page) (at-stretch .stretch .ensures))
+    let at-first-row = at-stretch .before .before .before .before in
+    let ready = at-first-row .before .before .before .before .before .before .before .before .before .before .before .before .before .before .before .pre .0 in
+    (ready .zone, ready .rules-listed, venue-all-coming _ _ _ _ _ _ (opens at-first-row) (at-stretch .stretch .ensures))
 
 stretch-requires-2 : tie.Need-stretch-requires-2
 stretch-requires-2 c κs =

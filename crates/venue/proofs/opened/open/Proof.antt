@@ -51,8 +51,8 @@ signed8-requires-2 c κs = omega (arith, first (c .before .before) .room)
 signed4-requires : tie.Need-signed4-requires
 signed4-requires c κs = omega (arith, first (c .before .before .before .before) .room)
 
-sub-first : tie.Need-sub-first
-sub-first c = let at-signed4 = c .before in omega (arith, at-signed4 .signed4 .ensures, first (at-signed4 .before .before .before .before .before) .offset-low)
+sub-offset0 : tie.Need-sub-offset0
+sub-offset0 c = let at-signed4 = c .before in omega (arith, at-signed4 .signed4 .ensures, first (at-signed4 .before .before .before .before .before) .offset-low)
 
 store-requires : tie.Need-store-requires
 store-requires c κs =
@@ -92,6 +92,6 @@ open-spec =
     signed8-requires-2
     (λ c κs. search needs)
     signed4-requires
-    sub-first
+    sub-offset0
     store-requires
     returns-3)

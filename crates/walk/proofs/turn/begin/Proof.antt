@@ -2,7 +2,7 @@ use Rattle.walk.proofs.Shifting.{steady-on}
 use Rattle.zone.proofs.Domain.{date-small}
 use Rattle.walk.proofs.Rest.{kept-nothing, kept-rule, begun}
 use Rattle.day.proofs.Points.{stands-at}
-use Rattle.day.specs.Governing.{governing}
+use Rattle.day.specs.Governing.{governingRule}
 use Rattle.records.specs.Records.{ruleAt}
 use Rattle.zone.specs.Zone.{zoneOf}
 use mathlib.Core.List.{map}
@@ -37,7 +37,7 @@ governing-near-requires c κs =
       (at-start .pre .2),
       omega (arith, (at-governing-near-arg .governing-near-arg .given)),
       omega
-          (arith, (at-date-of .date-of .ensures), date-small (args .first) (args .ats .now) (args .offsets .now) (args .cursor .0) (at-start .pre .0)),
+          (arith, (at-date-of .date-of .ensures), date-small (args .offset0) (args .ats .now) (args .offsets .now) (args .cursor .0) (at-start .pre .0)),
     )
 
 enum-told : tie.Need-enum-told
@@ -59,7 +59,7 @@ date-boundaries-requires c κs =
       stands-at (args .book .now) (at-governing-near .governing-near .ensures .1) (at-governed .governed .given .1),
       omega
           (arith, (at-date-boundaries-arg .date-boundaries-arg .given)),
-      steady-on (args .first) (args .ats .now) (args .offsets .now) (at-start .pre .0)
+      steady-on (args .offset0) (args .ats .now) (args .offsets .now) (at-start .pre .0)
           (args .cursor .0) _ (at-steady-offset .steady-offset .ensures) _ (at-date-of .date-of .ensures),
     )
 
@@ -70,8 +70,8 @@ returns c =
     let at-date-of = at-governing-near .before .before in
     let at-start = at-date-of .before .before .before .before .before .before in
     let args = at-start .args in
-    let zoneOf-is = zoneOf (args .first) (args .ats .now) (args .offsets .now) in (
-      begun (args .book .now) zoneOf-is (governing (map (ruleAt (args .book .now)) (args .rules .now))) (args .turns) (args .cursor) _ _ true _
+    let zoneOf-is = zoneOf (args .offset0) (args .ats .now) (args .offsets .now) in (
+      begun (args .book .now) zoneOf-is (governingRule (map (ruleAt (args .book .now)) (args .rules .now))) (args .turns) (args .cursor) _ _ true _
           (at-date-of .date-of .ensures) (at-governing-near .governing-near .ensures .0)
           (kept-nothing (args .book .now) zoneOf-is _ _ (at-enum-told .enum-told .given .1)),
       at-governing-near .governing-near .ensures .3,
@@ -95,8 +95,8 @@ returns-2 c =
     let at-date-of = at-governing-near .before .before in
     let at-start = at-date-of .before .before .before .before .before .before in
     let args = at-start .args in
-    let zoneOf-is = zoneOf (args .first) (args .ats .now) (args .offsets .now) in (
-      begun (args .book .now) zoneOf-is (governing (map (ruleAt (args .book .now)) (args .rules .now))) (args .turns) (args .cursor)
+    let zoneOf-is = zoneOf (args .offset0) (args .ats .now) (args .offsets .now) in (
+      begun (args .book .now) zoneOf-is (governingRule (map (ruleAt (args .book .now)) (args .rules .now))) (args .turns) (args .cursor)
           (at-date-of .date-of .result) _ _ _ (at-date-of .date-of .ensures)
           (sym (ap (ruled (args .book .now)) (at-governed .governed .given .1)) ∙ (at-governing-near .governing-near .ensures) .0) (kept-rule
           (args .book .now) zoneOf-is (at-date-of .date-of .result .0) _ _ _ refl

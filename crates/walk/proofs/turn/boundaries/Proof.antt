@@ -12,11 +12,11 @@ use Rattle.walk.proofs.turn.boundaries.Statement.{statement}
 use Rattle.walk.proofs.turn.boundaries.Tie as tie
 
 abbrev Inv-loop : tie.InvT-loop
-Inv-loop book first ats offsets rule d edges₀ place n before₀ calm₀ i₀ edges before calm i =
-    Filling (zoneOf first ats offsets) (ruleAt book rule) (d .0) edges₀ edges before i × ClearTo (zoneOf first ats offsets) (ruleAt book rule) (d .0) calm i
+Inv-loop book first ats offsets rule d edges₀ place n before₀ clear₀ i₀ edges before clear i =
+    Filling (zoneOf first ats offsets) (ruleAt book rule) (d .0) edges₀ edges before i × ClearTo (zoneOf first ats offsets) (ruleAt book rule) (d .0) clear i
 
 abbrev μ-loop : tie.MeasureT-loop
-μ-loop book first ats offsets rule d edges₀ place n before₀ calm₀ i₀ edges before calm i = n - i
+μ-loop book first ats offsets rule d edges₀ place n before₀ clear₀ i₀ edges before clear i = n - i
 
 rule-points-requires : tie.Need-rule-points-requires Inv-loop μ-loop
 rule-points-requires c κs =
@@ -27,8 +27,8 @@ loop-holds : tie.Need-loop-holds Inv-loop μ-loop
 loop-holds c =
     let at-start = c .before .before .before .before .before in
     let args = at-start .args in (
-      filling-none (zoneOf (args .first) (args .ats .now) (args .offsets .now)) (ruleAt (args .book .now) (args .rule)) (args .d .0) _,
-      clear-none (zoneOf (args .first) (args .ats .now) (args .offsets .now)) (ruleAt (args .book .now) (args .rule)) (args .d .0),
+      filling-none (zoneOf (args .offset0) (args .ats .now) (args .offsets .now)) (ruleAt (args .book .now) (args .rule)) (args .d .0) _,
+      clear-none (zoneOf (args .offset0) (args .ats .now) (args .offsets .now)) (ruleAt (args .book .now) (args .rule)) (args .d .0),
     )
 
 point-time-requires : tie.Need-point-time-requires Inv-loop μ-loop
@@ -101,7 +101,7 @@ loop-again c =
     let at-rule-points = at-loop .before in
     let at-start = at-rule-points .before .before .before .before .before in
     let args = at-start .args in
-    let zoneOf-is = zoneOf (args .first) (args .ats .now) (args .offsets .now) in
+    let zoneOf-is = zoneOf (args .offset0) (args .ats .now) (args .offsets .now) in
     let ruleAt-is = ruleAt (args .book .now) (args .rule) in (
       filling-next zoneOf-is ruleAt-is (args .d .0) _ _ _ _ _ (at-loop .loop .inv .0)
           (omega (arith, (at-rule-points .rule-points .ensures), (at-start .pre .2))) (omega (arith, (at-rule-points .rule-points .ensures))) _
@@ -153,7 +153,7 @@ returns c =
     let at-rule-points = at-loop .before in
     let at-start = at-rule-points .before .before .before .before .before in
     let args = at-start .args in
-    let zoneOf-is = zoneOf (args .first) (args .ats .now) (args .offsets .now) in
+    let zoneOf-is = zoneOf (args .offset0) (args .ats .now) (args .offsets .now) in
     let ruleAt-is = ruleAt (args .book .now) (args .rule) in
     let n = at-rule-points .rule-points .ensures in (
       filled zoneOf-is ruleAt-is (args .d .0) _ _ _ _ _ (at-loop .loop .inv .0) (omega (arith, n, (at-start .pre .2))) (omega (arith, n)) _ _ (n .0)

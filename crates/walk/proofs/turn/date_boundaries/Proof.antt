@@ -5,7 +5,7 @@ use Rattle.records.specs.Records.{ruleAt}
 use Rattle.zone.specs.Zone.{zoneOf}
 use Rattle.zone.specs.Steady.{midnightBy, DayOnWall}
 use Rattle.walk.specs.Shifting.{Shifts}
-use Rattle.walk.proofs.Shifting.{shifts-by, shifts-calm, midnight-fits}
+use Rattle.walk.proofs.Shifting.{shifts-by, shifts-clear, midnight-fits}
 use borrow.Author.Needs.{needs}
 use Rattle.walk.proofs.turn.date_boundaries.Statement.{statement}
 use Rattle.walk.proofs.turn.date_boundaries.Tie as tie
@@ -14,7 +14,7 @@ use Rattle.walk.proofs.turn.date_boundaries.Tie as tie
 steadily : (c : tie.After-steady)
     → let args = c .before .before .before .before .before .before .args in
     let o = c .steady .given .0 .0 in
-    DayOnWall o (args .d .0) × Shifts (zoneOf (args .first) (args .ats .now) (args .offsets .now)) (args .d .0) (midnightBy o (args .d .0))
+    DayOnWall o (args .d .0) × Shifts (zoneOf (args .offset0) (args .ats .now) (args .offsets .now)) (args .d .0) (midnightBy o (args .d .0))
 steadily c = shifts-by (c .steady .given .1) (c .before .before .before .before .before .before .pre .3)
 
 steady-midnight-requires : tie.Need-steady-midnight-requires
@@ -35,7 +35,7 @@ returns-2 c =
     let at-start = at-steady .before .before .before .before .before .before in
     let s = steadily at-steady .1 in (
       at-steady-boundaries .steady-boundaries .ensures _ _ (subst (Shifts _ _) (sym (at-steady-midnight .steady-midnight .ensures)) s),
-      (λ e. shifts-calm s (ruleAt (at-start .args .book .now) (at-start .args .rule)) (good-rule _ _ (at-start .pre .1) .each), λ c. refl),
+      (λ e. shifts-clear s (ruleAt (at-start .args .book .now) (at-start .args .rule)) (good-rule _ _ (at-start .pre .1) .each), λ c. refl),
     )
 
 pub date-boundaries-spec : {M : Type 1} → statement M

@@ -19,7 +19,7 @@ steady-day-requires c κs =
     let at-steady = c .before in
     let at-start = at-steady .before .before .before .before in
     let args = at-start .args in
-    cursor-on (args .first) (args .ats .now) (args .offsets .now) (at-start .pre .0) (args .cursor .0) (at-start .pre .1)
+    cursor-on (args .offset0) (args .ats .now) (args .offsets .now) (at-start .pre .0) (args .cursor .0) (at-start .pre .1)
     (at-steady .steady .given .1)
 
 returns : tie.Need-returns
@@ -33,7 +33,7 @@ returns-2 c =
     let at-steady = at-steady-day .before .before in
     let at-start = at-steady .before .before .before .before in
     let args = at-start .args in
-    cursor-date (args .first) (args .ats .now) (args .offsets .now) (at-start .pre .0) (args .cursor .0) (at-start .pre .1)
+    cursor-date (args .offset0) (args .ats .now) (args .offsets .now) (at-start .pre .0) (args .cursor .0) (at-start .pre .1)
     (at-steady .steady .given .1) (at-steady-day .steady-day .ensures)
 
 pub date-of-spec : {M : Type 1} → statement M

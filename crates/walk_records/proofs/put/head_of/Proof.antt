@@ -1,4 +1,4 @@
-use Rattle.walk_records.proofs.Heads.{calm-head, span-head}
+use Rattle.walk_records.proofs.Heads.{clear-head, span-head}
 use Rattle.venue.specs.Reading.{ListedRule}
 use Rattle.zone.specs.Zone.{zoneOf}
 use Prim.Native.Nat.{ℕ}
@@ -33,7 +33,7 @@ returns c =
     let at-if1 = at-rule-uncertainty .before .before in
     let at-start = at-if1 .before .before .before .before .before .before in
     let args = at-start .args in
-    calm-head (args .book .now) (zoneOf (args .first) (args .ats .now) (args .offsets .now)) (args .q) (args .events) (at-start .pre .1)
+    clear-head (args .book .now) (zoneOf (args .offset0) (args .ats .now) (args .offsets .now)) (args .q) (args .events) (at-start .pre .1)
     (at-if1 .if1 .taken) _ _ (at-rule-uncertainty .rule-uncertainty .ensures) (at-point-phase .point-phase .ensures .0)
     (at-phase-of .phase-of .ensures)
 
@@ -58,7 +58,7 @@ returns-2 c =
     let at-segment = at-widest .before .before .before in
     let at-start = at-segment .before .before .before .before .before .before .before in
     let args = at-start .args in
-    span-head (args .book .now) (zoneOf (args .first) (args .ats .now) (args .offsets .now)) (args .q) (args .events)
+    span-head (args .book .now) (zoneOf (args .offset0) (args .ats .now) (args .offsets .now)) (args .q) (args .events)
     (at-segment .segment .ensures .0) (at-widest .widest .ensures) (at-phase-of2 .phase-of2 .ensures)
 
 pub head-of-spec : {M : Type 1} → statement M

@@ -5,7 +5,7 @@ use Rattle.walk.proofs.Going.{come, shown, stands-on, come-fewer, turn-fewer}
 use Rattle.answer.specs.declared.Phase.{Phase}
 use Rattle.day.proofs.Keeping.{keeps-blank}
 use Rattle.walk.proofs.Looking.{stands-held}
-use Rattle.walk.specs.Walking.{Stands}
+use Rattle.walk.specs.Walking.{WalkStands}
 use Rattle.day.specs.Keeping.{Keeps}
 use Rattle.venue.proofs.Laws.{good-rule}
 use mathlib.Core.Path.{ap, _∙_}
@@ -16,7 +16,7 @@ use Rattle.walk_records.proofs.put.put_walk.Tie as tie
 
 abbrev Inv-pieces : tie.InvT-pieces
 Inv-pieces book first ats offsets rules events hi out₀ at kept₀ edges₀ w₀ head₀ begun₀ stand₀ place₀ out kept edges w head begun stand place =
-    Stands book (z book first ats offsets rules events (hi .0)) w edges × Writing out₀ at
+    WalkStands book (z book first ats offsets rules events (hi .0)) w edges × Writing out₀ at
     (bytesLeft book first ats offsets rules events (hi .0) w₀) out begun stand head place
     (left book first ats offsets rules events (hi .0) w) × Keeps book rules kept
 
@@ -32,32 +32,32 @@ At it = it Inv-pieces μ-pieces
 abbrev entry : At tie.At-pieces → At tie.Start
 entry c = c .before .before .before .before .before .before .before .before .before .before .before
 
-abbrev piece : At tie.After-joins → At tie.After-q
+abbrev piece : At tie.After-is-joinable → At tie.After-q
 piece c = c .before .before .before .before .before .before .before .before .before .before
 
 -- a piece comes
 comes-at : (c : At tie.After-q)
     → let at-pieces = c .before .before .before .before in
     let args = entry at-pieces .args in
-    Coming (args .book .now) (args .first) (args .ats .now) (args .offsets .now) (args .rules .now) (args .events .now) (args .hi .0)
+    Coming (args .book .now) (args .offset0) (args .ats .now) (args .offsets .now) (args .rules .now) (args .events .now) (args .hi .0)
     (at-pieces .pieces .w) (c .q .given .0 .0) (at-pieces .pieces .edges)
 comes-at c =
     let at-pieces = c .before .before .before .before in
-    come _ _ _ (entry at-pieces .pre .0 .zone) _ _ (at-pieces .pieces .inv .0) (c .before .before .here .ensures) _ (c .q .given .1)
+    come _ _ _ (entry at-pieces .pre .0 .zone) _ _ (at-pieces .pieces .inv .0) (c .before .before .next-piece .ensures) _ (c .q .given .1)
 
 -- and whether it joins is told
-taken-at : (c : At tie.After-joins)
+taken-at : (c : At tie.After-is-joinable)
     → let at-pieces = piece c .before .before .before .before in
     let args = entry at-pieces .args in
     let now = at-pieces .pieces in
-    Taken (args .book .now) (args .first) (args .ats .now) (args .offsets .now) (args .rules .now) (args .events .now) (args .hi .0) (args .out .now)
-    (args .at) (bytesLeft (args .book .now) (args .first) (args .ats .now) (args .offsets .now) (args .rules .now) (args .events .now) (args .hi .0)
-    (at-pieces .before .before .begin .result)) (now .out) (now .stand) (now .head) (now .place) (piece c .q .given .0 .0) (c .joins .result)
+    Taken (args .book .now) (args .offset0) (args .ats .now) (args .offsets .now) (args .rules .now) (args .events .now) (args .hi .0) (args .out .now)
+    (args .at) (bytesLeft (args .book .now) (args .offset0) (args .ats .now) (args .offsets .now) (args .rules .now) (args .events .now) (args .hi .0)
+    (at-pieces .before .before .begin .result)) (now .out) (now .stand) (now .head) (now .place) (piece c .q .given .0 .0) (c .is-joinable .result)
 taken-at c =
     let at-last-of = c .before .before .before in
     let at-pieces = piece c .before .before .before .before in
     taken _ _ _ _ _ _ _ (entry at-pieces .pre .0) (comes-at (piece c)) (c .before .before .point-phase .ensures .0) (c .before .rule-evidence .ensures) (at-pieces .pieces .inv .1)
-    (at-last-of .last-of .ensures) (c .joins .ensures)
+    (at-last-of .last-of .ensures) (c .is-joinable .ensures)
 
 begin-requires : At tie.Need-begin-requires
 begin-requires c κs =
@@ -71,8 +71,8 @@ pieces-holds c =
     let begun = at-begin .begin .ensures in
     (begun .0 .stands, begun-writing _ _ _ _ _ _ _ (at-start .pre .0) (begun .0) _ (at-start .pre .1), begun .1)
 
-here-requires : At tie.Need-here-requires
-here-requires c κs = stands-held (c .before .pieces .inv .0)
+next-piece-requires : At tie.Need-next-piece-requires
+next-piece-requires c κs = stands-held (c .before .pieces .inv .0)
 
 point-phase-requires : At tie.Need-point-phase-requires
 point-phase-requires c κs =
@@ -88,9 +88,9 @@ events-place-requires c κs = omega (arith, taken-at c .goes .begin, entry (piec
 put-events-requires : At tie.Need-put-events-requires
 put-events-requires c κs =
     let at-events-place = c .before in
-    let at-joins = at-events-place .before in
-    let ready = entry (piece at-joins .before .before .before .before) .pre .0 in
-    (ready .zone, ready .events-listed, ready .few, its-room (taken-at at-joins) (at-events-place .events-place .ensures))
+    let at-is-joinable = at-events-place .before in
+    let ready = entry (piece at-is-joinable .before .before .before .before) .pre .0 in
+    (ready .zone, ready .events-listed, ready .few, its-room (taken-at at-is-joinable) (at-events-place .events-place .ensures))
 
 cast-head-of : At tie.Need-cast-head-of
 cast-head-of c =
@@ -121,14 +121,14 @@ put-record-requires c κs =
     its-record (taken-at (at-events-place .before)) (at-events-place .events-place .ensures) (at-put-events .put-events .ensures)
     (at-head-of .head-of .ensures) (at-record-place .record-place .ensures) (at-told .told .ensures)
 
-behind-requires : At tie.Need-behind-requires
-behind-requires c κs =
+after-piece-requires : At tie.Need-after-piece-requires
+after-piece-requires c κs =
     let fits = comes-at (piece (c .before .before .before .before .before .before .before .before .before .before .before .before .before)) .fits in
     omega (arith, fits .point, good-rule _ _ (fits .listed) .few)
 
 pieces-less : At tie.Need-pieces-less
 pieces-less c =
-    come-fewer (comes-at (piece (c .before .before .before .before .before .before .before .before .before .before .before .before .before .before))) (c .behind .ensures)
+    come-fewer (comes-at (piece (c .before .before .before .before .before .before .before .before .before .before .before .before .before .before))) (c .after-piece .ensures)
 
 pieces-again : At tie.Need-pieces-again
 pieces-again c =
@@ -138,58 +138,58 @@ pieces-again c =
     let at-head-of = at-record-place .before in
     let at-put-events = at-head-of .before .before .before .before in
     let at-events-place = at-put-events .before .before in
-    let at-joins = at-events-place .before in
-    let at-pieces = piece at-joins .before .before .before .before in
+    let at-is-joinable = at-events-place .before in
+    let at-pieces = piece at-is-joinable .before .before .before .before in
     let args = entry at-pieces .args in (
-      stands-on (c .behind .ensures) (comes-at (piece at-joins) .stands),
-      written-on (args .book .now) (args .first) (args .ats .now) (args .offsets .now) (args .rules .now) (args .events .now) (args .hi .0)
-          (written (taken-at at-joins) (at-events-place .events-place .ensures) (at-put-events .put-events .ensures) (at-head-of .head-of .ensures)
-          (at-record-place .record-place .ensures) (at-told .told .ensures) (at-put-record .put-record .ensures)) (c .behind .ensures),
+      stands-on (c .after-piece .ensures) (comes-at (piece at-is-joinable) .stands),
+      written-on (args .book .now) (args .offset0) (args .ats .now) (args .offsets .now) (args .rules .now) (args .events .now) (args .hi .0)
+          (written (taken-at at-is-joinable) (at-events-place .events-place .ensures) (at-put-events .put-events .ensures) (at-head-of .head-of .ensures)
+          (at-record-place .record-place .ensures) (at-told .told .ensures) (at-put-record .put-record .ensures)) (c .after-piece .ensures),
       at-pieces .pieces .inv .2,
     )
 
-turn-on-requires : At tie.Need-turn-on-requires
-turn-on-requires c κs =
+next-turn-requires : At tie.Need-next-turn-requires
+next-turn-requires c κs =
     let at-enum-told = c .before .before in
-    let at-here = at-enum-told .before .before in
-    let at-pieces = at-here .before .before in
+    let at-next-piece = at-enum-told .before .before in
+    let at-pieces = at-next-piece .before .before in
     let ready = entry at-pieces .pre .0 in (
       ready .zone,
       ready .rules-listed,
       at-pieces .pieces .inv .2,
-      shown _ _ _ (ready .zone) _ _ (at-pieces .pieces .inv .0) (at-here .here .ensures) (at-enum-told .enum-told .given .1),
+      shown _ _ _ (ready .zone) _ _ (at-pieces .pieces .inv .0) (at-next-piece .next-piece .ensures) (at-enum-told .enum-told .given .1),
     )
 
 pieces-less-2 : At tie.Need-pieces-less-2
 pieces-less-2 c =
     let at-next = c .before in
-    let at-turn-on = at-next .before .before in
-    let args = entry (at-turn-on .before .before .before .before .before .before .before) .args in
-    turn-fewer (turning (args .book .now) (args .first) (args .ats .now) (args .offsets .now) (args .rules .now) (args .events .now) (args .hi .0) _ _ _
-    (at-turn-on .turn-on .ensures .0) (at-next .next .given .1))
+    let at-next-turn = at-next .before .before in
+    let args = entry (at-next-turn .before .before .before .before .before .before .before) .args in
+    turn-fewer (turning (args .book .now) (args .offset0) (args .ats .now) (args .offsets .now) (args .rules .now) (args .events .now) (args .hi .0) _ _ _
+    (at-next-turn .next-turn .ensures .0) (at-next .next .given .1))
 
 pieces-again-2 : At tie.Need-pieces-again-2
 pieces-again-2 c =
     let at-next = c .before in
-    let at-turn-on = at-next .before .before in
-    let at-pieces = at-turn-on .before .before .before .before .before .before .before in
+    let at-next-turn = at-next .before .before in
+    let at-pieces = at-next-turn .before .before .before .before .before .before .before in
     let args = entry at-pieces .args in
-    let on = turning (args .book .now) (args .first) (args .ats .now) (args .offsets .now) (args .rules .now) (args .events .now) (args .hi .0) _ _ _
-    (at-turn-on .turn-on .ensures .0) (at-next .next .given .1) in (
+    let on = turning (args .book .now) (args .offset0) (args .ats .now) (args .offsets .now) (args .rules .now) (args .events .now) (args .hi .0) _ _ _
+    (at-next-turn .next-turn .ensures .0) (at-next .next .given .1) in (
       on .stands,
-      turn-written (args .book .now) (args .first) (args .ats .now) (args .offsets .now) (args .rules .now) (args .events .now) (args .hi .0)
+      turn-written (args .book .now) (args .offset0) (args .ats .now) (args .offsets .now) (args .rules .now) (args .events .now) (args .hi .0)
           (at-pieces .pieces .inv .1) on,
-      at-turn-on .turn-on .ensures .1,
+      at-next-turn .next-turn .ensures .1,
     )
 
 returns : At tie.Need-returns
 returns c =
-    let at-turn-on = c .before .before in
-    let at-pieces = at-turn-on .before .before .before .before .before .before .before in
+    let at-next-turn = c .before .before in
+    let at-pieces = at-next-turn .before .before .before .before .before .before .before in
     let args = entry at-pieces .args in
     walk-put _ _ _ _ _ _ _ (entry at-pieces .pre .0) (at-pieces .before .before .begin .ensures .0) (at-pieces .pieces .inv .1)
-    (done-left (args .book .now) (args .first) (args .ats .now) (args .offsets .now) (args .rules .now) (args .events .now) (args .hi .0) _ _ _
-    (at-turn-on .turn-on .ensures .0) (c .enum-told2 .given .1))
+    (done-left (args .book .now) (args .offset0) (args .ats .now) (args .offsets .now) (args .rules .now) (args .events .now) (args .hi .0) _ _ _
+    (at-next-turn .next-turn .ensures .0) (c .enum-told2 .given .1))
 
 same-length : At tie.Need-same-length
 same-length c = returns c .kept
@@ -204,7 +204,7 @@ put-walk-spec =
     begin-requires
     (λ c κs. tt)
     pieces-holds
-    here-requires
+    next-piece-requires
     (λ c. search needs)
     (λ c. search needs)
     (λ c κs. tt)
@@ -218,11 +218,11 @@ put-walk-spec =
     (λ c κs. tt)
     told-requires
     put-record-requires
-    behind-requires
+    after-piece-requires
     pieces-less
     pieces-again
     (λ c. search needs)
-    turn-on-requires
+    next-turn-requires
     (λ c. search needs)
     (λ c. search needs)
     pieces-less-2

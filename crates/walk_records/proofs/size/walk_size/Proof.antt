@@ -3,11 +3,11 @@ use native.Mathlib.Omega.{arith}
 use Rattle.walk_records.proofs.Sizes.{bytesOf, Sizing, size-start, size-end}
 use Rattle.walk_records.specs.Walked.{phaseForms}
 use Rattle.joining.specs.Joining.{phases}
-use Rattle.tell.specs.Shown.{Shown}
+use Rattle.span_records.specs.Shown.{Shown}
 use Rattle.walk.proofs.Looking.{stands-held}
 use Rattle.day.proofs.Keeping.{keeps-blank}
 use Rattle.day.specs.Keeping.{Keeps}
-use Rattle.walk.specs.Walking.{Stands}
+use Rattle.walk.specs.Walking.{WalkStands}
 use Rattle.venue.proofs.Laws.{good-rule}
 use Rattle.spans.specs.Spans.{Span, joined}
 use Rattle.answer.specs.Forms.{encodeAll}
@@ -21,7 +21,7 @@ use Rattle.walk_records.proofs.size.walk_size.Tie as tie
 
 abbrev Inv-pieces : tie.InvT-pieces
 Inv-pieces book first ats offsets rules events hi kept₀ edges₀ w₀ last₀ size₀ kept edges w last size =
-    Stands book (z book first ats offsets rules events (hi .0)) w edges
+    WalkStands book (z book first ats offsets rules events (hi .0)) w edges
     × Sizing (length (bytesOf (joined phases (left book first ats offsets rules events (hi .0) w₀)))) last size (left book first ats offsets rules events (hi .0) w)
     × Keeps book rules kept
 
@@ -44,11 +44,11 @@ piece c = c .before .before .before .before .before .before .before
 comes-at : (c : At tie.After-q)
     → let at-pieces = c .before .before .before .before in
     let args = entry at-pieces .args in
-    Coming (args .book .now) (args .first) (args .ats .now) (args .offsets .now) (args .rules .now) (args .events .now) (args .hi .0)
+    Coming (args .book .now) (args .offset0) (args .ats .now) (args .offsets .now) (args .rules .now) (args .events .now) (args .hi .0)
     (at-pieces .pieces .w) (c .q .given .0 .0) (at-pieces .pieces .edges)
 comes-at c =
     let at-pieces = c .before .before .before .before in
-    come _ _ _ (entry at-pieces .pre .zone) _ _ (at-pieces .pieces .inv .0) (c .before .before .here .ensures) _ (c .q .given .1)
+    come _ _ _ (entry at-pieces .pre .zone) _ _ (at-pieces .pieces .inv .0) (c .before .before .next-piece .ensures) _ (c .q .given .1)
 
 begin-requires : At tie.Need-begin-requires
 begin-requires c κs =
@@ -61,8 +61,8 @@ pieces-holds c =
     let ready = c .before .before .before .before .before .before .before .before .pre in
     (begun .0 .stands, size-start _ (begun-few _ _ _ _ _ _ _ ready (begun .0)), begun .1)
 
-here-requires : At tie.Need-here-requires
-here-requires c κs = stands-held (c .before .pieces .inv .0)
+next-piece-requires : At tie.Need-next-piece-requires
+next-piece-requires c κs = stands-held (c .before .pieces .inv .0)
 
 point-phase-requires : At tie.Need-point-phase-requires
 point-phase-requires c κs =
@@ -93,75 +93,75 @@ add-size-2 c =
     let at-pieces = piece (at-record-size .before .before .before) .before .before .before .before in
     omega (arith, c .count-events .ensures .1, at-pieces .pieces .inv .1 .few, at-record-size .record-size .ensures .1)
 
-behind-requires : At tie.Need-behind-requires
-behind-requires c κs =
+after-piece-requires : At tie.Need-after-piece-requires
+after-piece-requires c κs =
     let fits = comes-at (piece (c .before .before .before .before)) .fits in
     omega (arith, fits .point, good-rule _ _ (fits .listed) .few)
 
 pieces-less : At tie.Need-pieces-less
 pieces-less c =
-    come-fewer (comes-at (piece (c .before .before .before .before .before))) (c .behind .ensures)
+    come-fewer (comes-at (piece (c .before .before .before .before .before))) (c .after-piece .ensures)
 
 pieces-again : At tie.Need-pieces-again
 pieces-again c =
     let at-count-events = c .before in
     let at-record-size = at-count-events .before in
-    let at-joins = at-record-size .before in
-    let at-rule-evidence = at-joins .before in
+    let at-is-joinable = at-record-size .before in
+    let at-rule-evidence = at-is-joinable .before in
     let at-point-phase = at-rule-evidence .before in
     let at-q = piece at-point-phase in
     let at-pieces = at-q .before .before .before .before in
     let args = entry at-pieces .args in (
-      stands-on (c .behind .ensures) (comes-at at-q .stands),
-      sized-on (args .book .now) (args .first) (args .ats .now) (args .offsets .now) (args .rules .now) (args .events .now) (args .hi .0)
+      stands-on (c .after-piece .ensures) (comes-at at-q .stands),
+      sized-on (args .book .now) (args .offset0) (args .ats .now) (args .offsets .now) (args .rules .now) (args .events .now) (args .hi .0)
           (sized _ _ _ _ _ _ _ (entry at-pieces .pre) (comes-at at-q) (at-point-phase .point-phase .ensures .0)
-          (at-rule-evidence .rule-evidence .ensures) (at-pieces .pieces .inv .1) (at-joins .joins .ensures) (at-record-size .record-size .ensures .0)
-          (at-count-events .count-events .ensures .0) refl) (c .behind .ensures),
+          (at-rule-evidence .rule-evidence .ensures) (at-pieces .pieces .inv .1) (at-is-joinable .is-joinable .ensures) (at-record-size .record-size .ensures .0)
+          (at-count-events .count-events .ensures .0) refl) (c .after-piece .ensures),
       at-pieces .pieces .inv .2,
     )
 
-turn-on-requires : At tie.Need-turn-on-requires
-turn-on-requires c κs =
+next-turn-requires : At tie.Need-next-turn-requires
+next-turn-requires c κs =
     let at-enum-told = c .before .before in
-    let at-here = at-enum-told .before .before in
-    let at-pieces = at-here .before .before in
+    let at-next-piece = at-enum-told .before .before in
+    let at-pieces = at-next-piece .before .before in
     let ready = entry at-pieces .pre in (
       ready .zone,
       ready .rules-listed,
       at-pieces .pieces .inv .2,
-      shown _ _ _ (ready .zone) _ _ (at-pieces .pieces .inv .0) (at-here .here .ensures) (at-enum-told .enum-told .given .1),
+      shown _ _ _ (ready .zone) _ _ (at-pieces .pieces .inv .0) (at-next-piece .next-piece .ensures) (at-enum-told .enum-told .given .1),
     )
 
 pieces-less-2 : At tie.Need-pieces-less-2
 pieces-less-2 c =
     let at-next = c .before in
-    let at-turn-on = at-next .before .before in
-    let args = entry (at-turn-on .before .before .before .before .before .before .before) .args in
-    turn-fewer (turning (args .book .now) (args .first) (args .ats .now) (args .offsets .now) (args .rules .now) (args .events .now) (args .hi .0) _ _ _
-    (at-turn-on .turn-on .ensures .0) (at-next .next .given .1))
+    let at-next-turn = at-next .before .before in
+    let args = entry (at-next-turn .before .before .before .before .before .before .before) .args in
+    turn-fewer (turning (args .book .now) (args .offset0) (args .ats .now) (args .offsets .now) (args .rules .now) (args .events .now) (args .hi .0) _ _ _
+    (at-next-turn .next-turn .ensures .0) (at-next .next .given .1))
 
 pieces-again-2 : At tie.Need-pieces-again-2
 pieces-again-2 c =
     let at-next = c .before in
-    let at-turn-on = at-next .before .before in
-    let at-pieces = at-turn-on .before .before .before .before .before .before .before in
+    let at-next-turn = at-next .before .before in
+    let at-pieces = at-next-turn .before .before .before .before .before .before .before in
     let args = entry at-pieces .args in
-    let on = turning (args .book .now) (args .first) (args .ats .now) (args .offsets .now) (args .rules .now) (args .events .now) (args .hi .0) _ _ _
-    (at-turn-on .turn-on .ensures .0) (at-next .next .given .1) in (
+    let on = turning (args .book .now) (args .offset0) (args .ats .now) (args .offsets .now) (args .rules .now) (args .events .now) (args .hi .0) _ _ _
+    (at-next-turn .next-turn .ensures .0) (at-next .next .given .1) in (
       on .stands,
-      turn-sized (args .book .now) (args .first) (args .ats .now) (args .offsets .now) (args .rules .now) (args .events .now) (args .hi .0)
+      turn-sized (args .book .now) (args .offset0) (args .ats .now) (args .offsets .now) (args .rules .now) (args .events .now) (args .hi .0)
           (at-pieces .pieces .inv .1) on,
-      at-turn-on .turn-on .ensures .1,
+      at-next-turn .next-turn .ensures .1,
     )
 
 returns : At tie.Need-returns
 returns c =
-    let at-turn-on = c .before .before in
-    let at-pieces = at-turn-on .before .before .before .before .before .before .before in
+    let at-next-turn = c .before .before in
+    let at-pieces = at-next-turn .before .before .before .before .before .before .before in
     let begun = begun-spans _ _ _ _ _ _ _ (entry at-pieces .pre) (at-pieces .before .begin .ensures .0) in
     let args = entry at-pieces .args in
-    let done = done-left (args .book .now) (args .first) (args .ats .now) (args .offsets .now) (args .rules .now) (args .events .now) (args .hi .0) _ _ _
-    (at-turn-on .turn-on .ensures .0) (c .enum-told2 .given .1) in
+    let done = done-left (args .book .now) (args .offset0) (args .ats .now) (args .offsets .now) (args .rules .now) (args .events .now) (args .hi .0) _ _ _
+    (at-next-turn .next-turn .ensures .0) (c .enum-told2 .given .1) in
     let all = size-end (at-pieces .pieces .inv .1) done in
     (all .0 ∙ ap (λ (l : List (Span Shown)). length (encodeAll (phaseForms l))) (sym begun), all .1)
 
@@ -174,7 +174,7 @@ walk-size-spec =
     (λ c. omega arith)
     begin-requires
     pieces-holds
-    here-requires
+    next-piece-requires
     (λ c. search needs)
     (λ c. search needs)
     point-phase-requires
@@ -185,11 +185,11 @@ walk-size-spec =
     add-size
     mul-size
     add-size-2
-    behind-requires
+    after-piece-requires
     pieces-less
     pieces-again
     (λ c. search needs)
-    turn-on-requires
+    next-turn-requires
     (λ c. search needs)
     (λ c. search needs)
     pieces-less-2

@@ -8,7 +8,7 @@ returns : tie.Need-returns
 returns c =
     let at-nearest = c .before in
     let args = at-nearest .before .before .before .args in
-    reading-by (zoneOf (args .first) (args .ats .now) (args .offsets .now)) (args .t .0) _ _ (at-nearest .nearest .ensures) (c .offset-at .ensures .0)
+    reading-by (zoneOf (args .offset0) (args .ats .now) (args .offsets .now)) (args .t .0) _ _ (at-nearest .nearest .ensures) (c .offset-at .ensures .0)
 
 pub reading-of-spec : {M : Type 1} → statement M
 reading-of-spec =

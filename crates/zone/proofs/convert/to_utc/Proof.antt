@@ -3,7 +3,7 @@ use Rattle.zone.proofs.Passing.{getD-within, offset-in, none-near, one-
 use Rattle.zone.specs.declared.Resolution.the-variants.{Clear}
 use Rattle.zone.specs.Private.{around}
 use Rattle.zone.specs.Zone.{Zone, zoneOf, instantBy, resolve}
-use Rattle.zone.specs.Units.{mostNs, nearestReading}
+use Rattle.zone.specs.Units.{mostOffsetNs, nearestReading}
 use lib.ListN.{getD, List·getD-eq-default}
 use mathlib.Core.List.{_∷_}
 use native.Mathlib.Omega.{arith}
@@ -16,13 +16,13 @@ abbrev start : tie.After-passed → tie.Start
 start c = c .before .before .before .before
 
 abbrev zoneIn : tie.Start → Zone
-zoneIn c = zoneOf (c .args .first) (c .args .ats .now) (c .args .offsets .now)
+zoneIn c = zoneOf (c .args .offset0) (c .args .ats .now) (c .args .offsets .now)
 
 -- the instant by the offset before the next transition
 instant-before : (c : tie.After-instant-by)
     → let at-passed = c .before .before in
     let args = start at-passed .args in
-    c .instant-by .result ≡ instantBy (getD (args .first ∷ args .offsets .now) (at-passed .passed .result) 0) (at-passed .before .nearest .result)
+    c .instant-by .result ≡ instantBy (getD (args .offset0 ∷ args .offsets .now) (at-passed .passed .result) 0) (at-passed .before .nearest .result)
 instant-before c =
     c .instant-by .ensures ∙ ap (λ (o : ℕ). instantBy o (c .before .before .before .nearest .result)) (c .before .offset-after .ensures)
 
@@ -30,7 +30,7 @@ instant-before c =
 clear : (c : tie.After-instant-by)
     → let at-passed = c .before .before in
     let args = start at-passed .args in
-    at-passed .before .nearest .result + mostNs < getD (args .ats .now) (at-passed .passed .result) (2 ^ 64)
+    at-passed .before .nearest .result + mostOffsetNs < getD (args .ats .now) (at-passed .passed .result) (2 ^ 64)
     → Clear (record { 0 = c .instant-by .result }) ≡ resolve (zoneIn (start at-passed)) (nearestReading (args .x .0))
 clear c late =
     let at-passed = c .before .before in

@@ -10,7 +10,7 @@ returns c =
     let at-to-utc = at-taken .before in
     let at-reading-at = at-to-utc .before in
     let args = at-reading-at .before .before .before .args in
-    boundary-by (zoneOf (args .first) (args .ats .now) (args .offsets .now)) (args .d .0) (args .time) _ (args .published) _ _ _
+    boundary-by (zoneOf (args .offset0) (args .ats .now) (args .offsets .now)) (args .d .0) (args .time) _ (args .published) _ _ _
     (at-reading-at .reading-at .ensures) (at-to-utc .to-utc .ensures) (at-taken .taken .ensures) (c .uncertain .ensures)
 
 pub to-utc-at-spec : {M : Type 1} → statement M

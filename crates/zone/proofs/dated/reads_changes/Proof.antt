@@ -27,7 +27,7 @@ ahead : (c : At tie.At-loop)
     → let args = start c .args in
     let ats = args .ats .now in
     let offsets = args .offsets .now in
-    Ahead (zoneOf (args .first) ats offsets) (args .d .0) (args .from .0) (args .to .0) ats offsets (c .loop .k)
+    Ahead (zoneOf (args .offset0) ats offsets) (args .d .0) (args .from .0) (args .to .0) ats offsets (c .loop .k)
 ahead c = c .loop .inv .1 _ (ahead-passed (start c .pre) (c .before .passed .ensures))
 
 -- places are small

@@ -5,7 +5,7 @@ use Rattle.zone.proofs.dated.reads_throughout.Statement.{statement}
 use Rattle.zone.proofs.dated.reads_throughout.Tie as tie
 
 abbrev zoneIn : tie.Start → Zone
-zoneIn c = zoneOf (c .args .first) (c .args .ats .now) (c .args .offsets .now)
+zoneIn c = zoneOf (c .args .offset0) (c .args .ats .now) (c .args .offsets .now)
 
 returns : tie.Need-returns
 returns c = through-empty (zoneIn (c .before .before .before .before .before)) _ _ _ (c .if1 .taken)

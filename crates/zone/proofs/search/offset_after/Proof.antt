@@ -11,7 +11,7 @@ returns-2 : tie.Need-returns-2
 returns-2 c =
     let args = c .before .before .args in
     let z : suc (args .count - 1) ≡ args .count = omega arith in
-    ap (λ (k : ℕ). getD (args .first ∷ args .offsets .now) k 0) z
+    ap (λ (k : ℕ). getD (args .offset0 ∷ args .offsets .now) k 0) z
 
 pub offset-after-spec : {M : Type 1} → statement M
 offset-after-spec =

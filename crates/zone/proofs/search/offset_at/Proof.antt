@@ -12,7 +12,7 @@ returns c =
     let at-start = at-passed .before .before .before in
     let k = at-passed .passed .result in
     let is =
-    offset-passed (at-start .args .t .0) (at-start .args .first) k _ _ (at-start .pre .spaced) (at-start .pre .alike) (at-passed .passed .ensures) in
+    offset-passed (at-start .args .t .0) (at-start .args .offset0) k _ _ (at-start .pre .spaced) (at-start .pre .alike) (at-passed .passed .ensures) in
     (c .offset-after .ensures ∙ sym is, omega (arith, offset-in _ _ _ k (at-start .pre) (at-passed .passed .ensures .most)))
 
 pub offset-at-spec : {M : Type 1} → statement M

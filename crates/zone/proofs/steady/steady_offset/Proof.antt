@@ -15,7 +15,7 @@ abbrev start : tie.Else1 → tie.Start
 start c = c .before .before .before .before
 
 abbrev zoneIn : tie.Start → Zone
-zoneIn c = zoneOf (c .args .first) (c .args .ats .now) (c .args .offsets .now)
+zoneIn c = zoneOf (c .args .offset0) (c .args .ats .now) (c .args .offsets .now)
 
 -- 56 hours before the stretch, and 56 hours after it
 abbrev low : tie.Start → ℕ
@@ -55,7 +55,7 @@ returns-4 c =
     let next = subst (λ (r : ℕ). high s < r) (at-next-at .next-at .ensures) (at-if3 .if3 .left) in
     let far = next-far (s .args .ats .now) k (high s) next in
     let none = none-true (low s) (high s) k _ _ (s .pre .spaced) (at-passed .passed .ensures) (omega arith) (omega arith) far in
-    let is = offset-passed (low s) (s .args .first) k _ _ (s .pre .spaced) (s .pre .alike) (at-passed .passed .ensures) in
+    let is = offset-passed (low s) (s .args .offset0) k _ _ (s .pre .spaced) (s .pre .alike) (at-passed .passed .ensures) in
     ap By (c .offset-after .ensures) ∙ sym (steady-by (zoneIn s) _ _ _ (at-if1 .if1 .left) (at-if2 .if2 .left) none is)
 
 pub steady-offset-spec : {M : Type 1} → statement M
