@@ -4,6 +4,12 @@ use crate::answer::{Phase, RuleCode, Uncertainty};
 use crate::fields::{i32_at, i64_at, kind, take, u16_at, u64_at};
 use crate::{Nanos, Refusal, Window, answered, ffi};
 
+/// The kinds of a book's records.
+const COVERAGE: u16 = 1;
+const CLOCK_CHANGE: u16 = 2;
+const RULE: u16 = 3;
+const EVENTS: u16 = 4;
+
 /// Days since 1970-01-01.
 #[derive(Debug, Clone, Copy, PartialEq, Eq, PartialOrd, Ord, Hash)]
 pub struct Day(pub i32);
@@ -21,17 +27,22 @@ impl Day {
 /// A venue's data.
 #[derive(Debug, Clone, PartialEq, Eq)]
 pub struct Book {
+    /// Of what the book speaks.
     pub coverage: Window,
     /// Seconds east of UTC before the first clock change.
     pub first_offset: i32,
+    /// The clock changes, in order.
     pub changes: Vec<ClockChange>,
+    /// The rules, as listed.
     pub rules: Vec<Rule>,
+    /// The events, as listed.
     pub events: Vec<EventRule>,
 }
 
 /// From an instant on the venue's clock has this offset.
 #[derive(Debug, Clone, Copy, PartialEq, Eq)]
 pub struct ClockChange {
+    /// The first instant of the new offset.
     pub at: Nanos,
     /// Seconds east of UTC.
     pub offset: i32,
@@ -40,14 +51,21 @@ pub struct ClockChange {
 /// The phases of the dates from a first to a last.
 #[derive(Debug, Clone, PartialEq, Eq)]
 pub struct Rule {
+    /// Its first date.
     pub first: Day,
+    /// Its last date, which belongs.
     pub last: Day,
+    /// What sort of rule it is.
     pub code: RuleCode,
     /// Bit 0 is Monday. Only a weekly rule has one.
     pub weekdays: u8,
+    /// The number of its name; 0 for a weekly rule.
     pub label: u16,
+    /// The number of what it rests on.
     pub evidence: u16,
+    /// The number of the reasoning; none where the venue said it itself.
     pub derived: Option<u16>,
+    /// How well its times are known.
     pub uncertainty: Uncertainty,
     /// From which time of the day which phase: nanoseconds, the first 0, rising.
     pub points: Vec<(u64, Phase)>,
@@ -56,10 +74,15 @@ pub struct Rule {
 /// Times of day at which something happens, from a first date to a last.
 #[derive(Debug, Clone, PartialEq, Eq)]
 pub struct EventRule {
+    /// Its first date.
     pub first: Day,
+    /// Its last date, which belongs.
     pub last: Day,
+    /// What happens; the host's own number.
     pub code: u16,
+    /// The number of what it rests on.
     pub evidence: u16,
+    /// How well its times are known.
     pub uncertainty: Uncertainty,
     /// Nanoseconds of the day.
     pub times: Vec<u64>,
@@ -134,10 +157,17 @@ impl Book {
     /// Reads an accepted book; none of zero bytes, which is a venue without data.
     pub fn read(bytes: &[u8]) -> Result<Option<Self>, Refusal> {
         Self::judge(bytes)?;
+        Self::read_accepted(bytes)
+    }
+
+    fn read_accepted(bytes: &[u8]) -> Result<Option<Self>, Refusal> {
         let mut rest = bytes;
         let Some(head) = take(&mut rest) else {
             return Ok(None);
         };
+        if kind(head) != COVERAGE {
+            return Err(Refusal::UnknownKind(kind(head)));
+        }
         let mut book = Self {
             coverage: Window {
                 start: Nanos(i64_at(head, 4)),
@@ -150,12 +180,13 @@ impl Book {
         };
         while let Some(record) = take(&mut rest) {
             match kind(record) {
-                2 => book.changes.push(ClockChange {
+                CLOCK_CHANGE => book.changes.push(ClockChange {
                     at: Nanos(i64_at(record, 4) * Self::SECOND),
                     offset: i32_at(record, 12),
                 }),
-                3 => book.rules.push(Rule::read(record)),
-                _ => book.events.push(EventRule::read(record)),
+                RULE => book.rules.push(Rule::read(record)),
+                EVENTS => book.events.push(EventRule::read(record)),
+                other => return Err(Refusal::UnknownKind(other)),
             }
         }
         Ok(Some(book))
@@ -165,5 +196,25 @@ impl Book {
     pub fn governing(&self, day: Day) -> Option<&Rule> {
         let applying = self.rules.iter().filter(|rule| rule.applies(day));
         applying.max_by_key(|rule| (rule.precedence(), rule.first))
+    }
+}
+
+#[cfg(test)]
+mod tests {
+    use super::*;
+
+    #[test]
+    fn a_kind_that_is_not_known_is_an_error() {
+        let head = [&[22, 0, 1, 0][..], &[0; 20]].concat();
+        assert!(matches!(Book::read_accepted(&head), Ok(Some(_))));
+        for kind in [0, 1, 5, 6, 16, 65_535u16] {
+            let strange = [&[18, 0][..], &kind.to_le_bytes(), &[0; 16]].concat();
+            let book = [&head[..], &strange].concat();
+            assert_eq!(Book::read_accepted(&book), Err(Refusal::UnknownKind(kind)));
+        }
+        assert_eq!(
+            Book::read_accepted(&[2, 0, 2, 0]),
+            Err(Refusal::UnknownKind(2))
+        );
     }
 }

@@ -18,6 +18,7 @@
 //! ```
 
 #![deny(unsafe_code)]
+#![warn(missing_docs)]
 
 pub mod answer;
 pub mod book;
@@ -47,26 +48,28 @@ impl Nanos {
 /// From an instant to before another.
 #[derive(Debug, Clone, Copy, PartialEq, Eq, Hash)]
 pub struct Window {
+    /// The first instant that belongs.
     pub start: Nanos,
+    /// The first behind it that does not.
     pub end: Nanos,
 }
 
 /// The phase at an instant with its events, or that it is not known.
 pub fn point<'a>(book: &[u8], at: Nanos, room: &'a mut [u8]) -> Result<Point<'a>, Refusal> {
     let length = answered(ffi::point(book, at.0, room))?;
-    Ok(Point::read(&room[..length]))
+    Point::read(&room[..length])
 }
 
 /// The timeline of a window: its phases with their events, and what is not known.
 pub fn window<'a>(book: &[u8], window: Window, room: &'a mut [u8]) -> Result<Row<'a>, Refusal> {
     let length = answered(ffi::window(book, window.start.0, window.end.0, room))?;
-    Ok(Row::answered(&room[..length]))
+    Row::answered(&room[..length])
 }
 
 /// The totals of a window of at most 400 days, for every 24 hours and together.
 pub fn tally<'a>(book: &[u8], window: Window, room: &'a mut [u8]) -> Result<Tally<'a>, Refusal> {
     let length = answered(ffi::tally(book, window.start.0, window.end.0, room))?;
-    Ok(Tally::answered(&room[..length]))
+    Tally::answered(&room[..length])
 }
 
 /// A row's bytes drawn over a window between brackets, one glyph a column, `|` where now is. Fewer than 12 columns,

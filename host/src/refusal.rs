@@ -1,8 +1,8 @@
-//! Why the library gave no answer: the sixteen numbers of document 01, by name.
+//! Why there is no answer: the sixteen numbers of document 01, by name, and what only a library newer than this crate gives.
 
 use std::fmt;
 
-/// A refusal. Nothing was written where there is one.
+/// A refusal. Where it has a number nothing was written.
 #[derive(Debug, Clone, Copy, PartialEq, Eq, Hash)]
 pub enum Refusal {
     /// 1: the book is longer than 65,536 bytes.
@@ -39,6 +39,9 @@ pub enum Refusal {
     RoomTooSmall,
     /// A number that document 01 does not have: the library is newer than this crate.
     Unknown(u32),
+    /// A record of a kind that this crate does not know, in an answer or in an accepted book: the library is newer than this
+    /// crate. Nothing of it was taken for unknown hours, or for anything else.
+    UnknownKind(u16),
 }
 
 /// Each refusal at its number less 1, with its words.
@@ -104,7 +107,7 @@ impl Refusal {
         }
     }
 
-    /// Document 01's number.
+    /// Document 01's number; 0 where the library gave none.
     pub fn number(self) -> u32 {
         if let Self::Unknown(number) = self {
             return number;
@@ -121,6 +124,9 @@ impl Refusal {
 
 impl fmt::Display for Refusal {
     fn fmt(&self, f: &mut fmt::Formatter<'_>) -> fmt::Result {
+        if let Self::UnknownKind(kind) = self {
+            return write!(f, "a record of kind {kind}, which this crate does not know");
+        }
         match TABLE.iter().find(|(refusal, _)| refusal == self) {
             Some((_, words)) => write!(f, "{words} ({})", self.number()),
             None => write!(f, "a refusal unknown here ({})", self.number()),

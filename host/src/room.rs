@@ -17,10 +17,12 @@ impl Room {
     /// The most that a room grows to if nothing else is said. A year's timeline of a usual venue takes some 200 KB.
     pub const LIMIT: usize = 16 << 20;
 
+    /// Room that grows up to `LIMIT`.
     pub fn new() -> Self {
         Self::with_limit(Self::LIMIT)
     }
 
+    /// Room that grows up to a limit of bytes.
     pub fn with_limit(limit: usize) -> Self {
         let bytes = vec![0; limit.min(Self::FIRST)];
         Self { bytes, limit }
@@ -29,21 +31,21 @@ impl Room {
     /// As `point`, in this room.
     pub fn point(&mut self, book: &[u8], at: Nanos) -> Result<Point<'_>, Refusal> {
         self.fit(|room| ffi::point(book, at.0, room))
-            .map(Point::read)
+            .and_then(Point::read)
     }
 
     /// As `window`, in this room.
     pub fn window(&mut self, book: &[u8], window: Window) -> Result<Row<'_>, Refusal> {
         let (start, end) = (window.start.0, window.end.0);
         self.fit(|room| ffi::window(book, start, end, room))
-            .map(Row::answered)
+            .and_then(Row::answered)
     }
 
     /// As `tally`, in this room.
     pub fn tally(&mut self, book: &[u8], window: Window) -> Result<Tally<'_>, Refusal> {
         let (start, end) = (window.start.0, window.end.0);
         self.fit(|room| ffi::tally(book, start, end, room))
-            .map(Tally::answered)
+            .and_then(Tally::answered)
     }
 
     /// As `cells`, in this room.
