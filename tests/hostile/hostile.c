@@ -21,7 +21,8 @@ enum { POINT, WINDOW, TALLY, CELLS, CLASS, COUNT, ENTRIES };
 static const char *const NAMES[ENTRIES] = {"point", "window", "tally", "cells", "class", "count"};
 
 /* The numbers that an entry may give, a bit for each, and the room that it is first lent. */
-#define NUMBERS 17
+#define LAST_NUMBER 16
+#define NUMBERS (LAST_NUMBER + 1)
 #define TO(number) ((UINT32_C(2) << (number)) - 1)
 #define SHORT (UINT32_C(1) << 16)
 #define OF_ROW (UINT32_C(1) | 1 << 10 | 1 << 15)

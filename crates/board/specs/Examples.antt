@@ -66,9 +66,17 @@ pub starred-cells : drawnA (pos 12) false 0 ∷ drawnA (pos 11) true tuesday ∷
 unfolding field bytes laid placed encode encodeAll eventsFrom segmentsFrom look phaseGlyph cellsFrom cellsAnswer
 starred-cells = refl
 
--- columns: 11 make 12, and so do negative ones; 512 pass, 513 get 14
+-- columns: 11 make 12, and so do negative ones; 512 stay
 pub starred-columns : map columnsOf (pos 11 ∷ negsuc 4 ∷ pos 512 ∷ []) ≡ 12 ∷ 12 ∷ 512 ∷ []
 starred-columns = refl
+
+-- the number of cells of no row, with so many columns
+abbrev pub columnsNumber : ℤ → ℕ
+columnsNumber columns = cellsNumber [] (pos (monday * secondNs)) (pos (tuesday * secondNs)) columns false (pos 0)
+
+pub columns-numbered : map columnsNumber (pos 11 ∷ pos 512 ∷ pos 513 ∷ []) ≡ 0 ∷ 0 ∷ 14 ∷ []
+unfolding windowRefusal goodFrom goodRow cellsNumber
+columns-numbered = refl
 
 -- a row, a window in seconds, columns, a now, and the number
 pub record Numbered : Type 0 where

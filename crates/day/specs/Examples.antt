@@ -48,7 +48,7 @@ abbrev answered : Option Held → Option (ℤ × ℤ)
 answered none = none
 answered (some h) = some (instantNumber (h .start .at .0), instantNumber (h .end .at .0))
 
-abbrev pointIn : List ℕ → Option Coverage → ℤ → Option (ℤ × ℤ)
+abbrev pub pointIn : List ℕ → Option Coverage → ℤ → Option (ℤ × ℤ)
 pointIn s none n = none
 pointIn s (some c) n = answered (pointOf (valuesOf (records s) c) (instantOf n))
 

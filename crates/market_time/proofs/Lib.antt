@@ -2,3 +2,4 @@ pub mod Plain
 pub mod BookA
 pub mod Tally
 pub mod Cells
+pub mod Demand

@@ -11,6 +11,7 @@ use Rattle.records.specs.Limits.{base}
 use Rattle.records.specs.Records.{Coverage}
 use Rattle.records.specs.Book.{refusal, records}
 use Rattle.records.specs.Valid.{Bytes}
+use Rattle.records.proofs.Cascade.{neither}
 use Rattle.spans.specs.Spans.{Mark, segmentAt}
 use Rattle.day.specs.Days.{valuesOf}
 use Rattle.query.specs.Judging.{windowRefusal}
@@ -27,11 +28,19 @@ use Rattle.zone.specs.Units.{instantOf}
 use Rattle.book_query.specs.Judging.{windowNumber}
 use Rattle.rows.specs.Rows.{shownIn}
 
+module _ (s : List ℕ) (start end : ℤ) (answered : windowNumber s start end ≡ 0) where
+  pub window-accepted : refusal base s ≡ 0
+  unfolding windowNumber
+  window-accepted = neither (refusal base s) (windowRefusal start end) answered .0
+
+  pub window-passes : windowRefusal start end ≡ 0
+  unfolding windowNumber
+  window-passes = neither (refusal base s) (windowRefusal start end) answered .1
+
 -- the book names a venue, whose coverage is c, and the window is answered
 module _ (s : List ℕ) (b : Bytes s) (c : Coverage) (named : Names s c) (start end : ℤ) (answered : windowNumber s start end ≡ 0) where
   pub passes : windowRefusal start end ≡ 0
-  unfolding windowNumber
-  passes = sym (ap (λ (q : Bool). cond q (windowRefusal start end) (refusal base s)) (eq-eqb (refusal base s) 0 (named .accepted))) ∙ answered
+  passes = window-passes s start end answered
 
   module _ (at : ℤ) (i : Between start end at) where
     -- the point query is answered too

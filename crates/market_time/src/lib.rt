@@ -7,7 +7,11 @@ ghost use Rattle.point.specs.Asking.{pointNumber, pointAnswer};
 ghost use Rattle.timeline.specs.Asking.{windowAnswer};
 ghost use Rattle.tally.specs.Tallying.{tallyNumber, tallyAnswer};
 ghost use Rattle.book_query.specs.Judging.{windowNumber};
+ghost use Rattle.records.specs.Limits.{base};
+ghost use Rattle.records.specs.Book.{refusal};
+ghost use Rattle.market_time.specs.Demand.{Demand};
 use board::cells_answer;
+use book::check;
 use classes::ClassReply;
 use classes::CountReply;
 use classes::class_answer;
@@ -72,4 +76,11 @@ pub extern "C" fn market_time_count(rows: &[u8], at: i64) -> CountReply
     ensures { λ r. ⌜ r ≡ countReply (now (rows .entry)) at ⌝ }
 {
     count_answer(rows, at)
+}
+
+// Demand 3 of any book that can be lent, whatever its bytes are. It only judges the book: its contract is the theorem.
+pub fn demand_3(book: &[u8]) -> u32
+    ensures { λ r. ⌜ (r ≡ refusal base (now (book .entry))) × Demand (now (book .entry)) ⌝ }
+{
+    check(book)
 }

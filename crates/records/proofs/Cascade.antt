@@ -1,17 +1,27 @@
 -- The number of a record, test by test. Assumes nothing.
 use mathlib.Core.Path.{_≡_, refl}
-use mathlib.Core.Bool.{Bool, true, false}
+use mathlib.Core.Bool.{Bool, true, false, cond}
 use mathlib.Core.List.{List}
 use Prim.Native.Nat.{ℕ}
 use native.Mathlib.Omega.{arith}
+use borrow.Author.Tests.{eqb-true, eqb-false}
+use lib.Dec.{eqb}
 use Rattle.records.specs.Limits.{Limits}
 use Rattle.records.specs.Records.{Record}
-use Rattle.records.specs.Book.{refuse, headless, tooMany, outside, lateStart, falling, reversed, coversNothing, tooClose, numberOf}
+use Rattle.records.specs.Book.{refuse, orThen, headless, tooMany, outside, lateStart, falling, reversed, coversNothing, tooClose, numberOf}
 
 -- a test that did not refuse
 pub passed : (b : Bool) (n m : ℕ) → (n ≡ 0 → ⊥) → refuse b n m ≡ 0 → (b ≡ false) × (m ≡ 0)
 passed true n m nz e = absurd (nz e)
 passed false n m nz e = (refl, e)
+
+-- neither of two numbers was given
+pub neither : (n m : ℕ) → orThen n m ≡ 0 → (n ≡ 0) × (m ≡ 0)
+neither n m e = go (eqb n 0) refl e
+  where
+    go : (q : Bool) → eqb n 0 ≡ q → cond q m n ≡ 0 → (n ≡ 0) × (m ≡ 0)
+    go true h e = (eqb-true n 0 h, e)
+    go false h e = absurd (eqb-false n 0 h e)
 
 -- every test of a record passed
 pub record Passed (l : Limits) (before : List Record) (r : Record) : Type 0 where

@@ -39,19 +39,23 @@ const ROWS: u8 = 6;
 
 const HEAD: usize = 81;
 
+// The last number that a reply may have.
+const LAST_NUMBER: u8 = 16;
+
 // Counts stand at the reply's number, plus 1; then known points, unknown ones, points refused, and what is no record.
-const KNOWN: u8 = 18;
+const KNOWN: u8 = LAST_NUMBER + 2;
 
-const UNKNOWN: u8 = 19;
+const UNKNOWN: u8 = KNOWN + 1;
 
-const NO_ANSWER: u8 = 20;
+const NO_ANSWER: u8 = KNOWN + 2;
 
-const STRANGE: u8 = 21;
+const STRANGE: u8 = KNOWN + 3;
 
 // Another entry is counted so many places behind its own number.
-const ENTRIES: u8 = 20;
+const ENTRIES: u8 = KNOWN + 2;
 
-const PLACES: usize = 27;
+// As far as the last entry.
+const PLACES: usize = LAST_NUMBER as usize + 11;
 
 // The longest book of zeros.
 const LONGEST: usize = 100_000;
@@ -89,7 +93,7 @@ fn count(p: Placed) -> usize
 }
 
 fn place(expected: usize) -> u8 {
-    if 16 < expected {
+    if (LAST_NUMBER as usize) < expected {
         return STRANGE;
     }
     expected as u8 + 1
@@ -338,7 +342,7 @@ fn told_kinds(counts: &[u64]) {
 }
 
 fn told_numbers(counts: &[u64]) {
-    report_refusals(counts, 18);
+    report_refusals(counts, KNOWN);
     report(b"differences ", counts, 0);
     report(b"bytes of the list not understood ", counts, STRANGE);
 }

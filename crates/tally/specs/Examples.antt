@@ -21,14 +21,14 @@ use Rattle.tally_rows.specs.Rows.{rowsFrom}
 use Rattle.book_query.specs.Judging.{windowNumber}
 use Rattle.tally.specs.Tallying.{tallyForms, tallyNumber}
 
-abbrev book : List ℕ
+abbrev pub book : List ℕ
 book = encodeAll bookA
 
 abbrev seconds : ℕ → ℤ
 seconds n = pos (n * secondNs)
 
 -- closed and continuous, in seconds; nothing else
-abbrev closedAndOpen : ℕ → ℕ → List ℕ
+abbrev pub closedAndOpen : ℕ → ℕ → List ℕ
 closedAndOpen c o = c * secondNs ∷ 0 ∷ 0 ∷ o * secondNs ∷ 0 ∷ 0 ∷ 0 ∷ 0 ∷ 0 ∷ 0 ∷ []
 
 -- Closed 84,600 s, continuous 45,000 s

@@ -28,7 +28,7 @@ starts (mark r) = none
 starts (day t) = none
 starts (tally t) = none
 
-abbrev first : List Form → Option (ℤ × ℤ)
+abbrev pub first : List Form → Option (ℤ × ℤ)
 first [] = none
 first (f ∷ fs) = starts f
 

@@ -25,11 +25,11 @@ pub record Wall : Type 0 where
   pub hour : ℕ
   pub minute : ℕ
 
-abbrev converted : Wall → ℤ
+abbrev pub converted : Wall → ℤ
 converted w = instantNumber (taken (resolve newYork (readingAt (w .day + zeroDay) ((w .hour * 60 + w .minute) * 60 * secondNs))))
 
 -- 02:30 on the day of the first change, 01:30 on that of the second
-abbrev walls : List Wall
+abbrev pub walls : List Wall
 walls = record { day = 20520; hour = 2; minute = 30 } ∷ record { day = 20758; hour = 1; minute = 30 } ∷ []
 
 pub starred : map converted walls ≡ pos (1772955000 * secondNs) ∷ pos (1793511000 * secondNs) ∷ []

@@ -10,7 +10,7 @@ use jiff::civil::{Date, Time};
 use jiff::tz::TimeZone;
 use market_time_core::resolve::doors;
 use market_time_core::{Interval, Rule, Uncertainty, UtcInstant, VenueRuleset, civil};
-use std::collections::BTreeMap;
+use std::collections::{BTreeMap, BTreeSet};
 
 /// The least of each that a long run must meet.
 pub const LEAST: u64 = 1000;
@@ -184,19 +184,21 @@ pub enum By {
     Tag,
     Phase,
     Code,
+    Event,
     Room,
     Situation,
     Length,
     Edge,
 }
 
-const HEADINGS: [&str; 10] = [
+const HEADINGS: [&str; 11] = [
     "books",
     "number",
     "kind",
     "tag",
     "phase",
     "rule code",
+    "event code",
     "room",
     "situation",
     "length",
@@ -205,6 +207,9 @@ const HEADINGS: [&str; 10] = [
 
 /// Whose tags are counted.
 const TAGGED: [&str; 4] = ["of a start", "of an end", "of the whole", "of an event"];
+
+/// Codes of events, and answers with several.
+const EVENT_CODES: [&str; 3] = ["1", "another", "several in one answer"];
 
 /// How long a window is: the upper bounds in nanoseconds, not included.
 const LENGTHS: [(&str, i64); 7] = [
@@ -246,6 +251,8 @@ impl Counts {
         // Added up first: a window's answer may have thousands of records.
         let (mut kinds, mut phases, mut codes) = ([0; 24], [0; 8], [0; 4]);
         let mut tags = [[0; 6]; 4];
+        let mut event_codes = BTreeSet::new();
+        let mut events = [0; 2];
         for answer in &answers {
             kinds[usize::from(answer.kind())] += 1;
             match answer {
@@ -257,7 +264,11 @@ impl Counts {
                     phases[usize::from(phase.phase)] += 1;
                     codes[usize::from(phase.code)] += 1;
                 }
-                Answer::Event { doubt, .. } => tags[3][usize::from(doubt.tag)] += 1,
+                Answer::Event { doubt, code, .. } => {
+                    tags[3][usize::from(doubt.tag)] += 1;
+                    events[usize::from(*code != 1)] += 1;
+                    event_codes.insert(*code);
+                }
                 _ => {}
             }
         }
@@ -274,6 +285,10 @@ impl Counts {
         }
         for (code, many) in codes.into_iter().enumerate() {
             self.add_many(By::Code, code, many);
+        }
+        let several = u64::from(event_codes.len() > 1);
+        for (name, many) in EVENT_CODES.iter().zip([events[0], events[1], several]) {
+            self.add_many(By::Event, name, many);
         }
     }
 
@@ -326,8 +341,11 @@ impl Counts {
             ("with 32 events", rules.events.len() == 32),
             ("with 640 clock changes", venue.changes.len() == 640),
             (
-                "with an event code that is not compared",
-                !venue.strange_codes.is_empty(),
+                "with an event code other than 1",
+                rules
+                    .events
+                    .iter()
+                    .any(|event| event.evidence.effective_from() != "c1"),
             ),
             ("without a rule", rules.rules.is_empty()),
         ];
@@ -382,6 +400,7 @@ impl Counts {
         }
         wanted.extend((0..8).map(|phase| (By::Phase, phase.to_string())));
         wanted.extend((0..4).map(|code| (By::Code, code.to_string())));
+        wanted.extend(EVENT_CODES.map(|name| (By::Event, name.to_owned())));
         wanted.extend(
             ["none", "one short", "exact", "one over"].map(|room| (By::Room, room.to_owned())),
         );

@@ -16,9 +16,6 @@ use market_time_core::{
 };
 use std::cmp::Ordering;
 
-/// The event code that stands for `FundingSettlement`, the only kind the Rust has.
-pub const SETTLEMENT: u16 = 1;
-
 #[derive(Debug, Clone, Copy, PartialEq, Eq)]
 pub enum Query {
     Point { at: i64 },
@@ -32,8 +29,6 @@ pub struct Venue {
     id: VenueId,
     /// What the book's changes are; for making instants and counting situations.
     pub changes: Vec<(i64, i32)>,
-    /// Event codes other than `SETTLEMENT`: they have no kind in the Rust.
-    pub strange_codes: Vec<u16>,
 }
 
 pub fn instant(at: i64) -> UtcInstant {
@@ -61,6 +56,12 @@ pub fn time(nanos_of_day: u64) -> Time {
 
 fn evidence(number: u16) -> EvidenceRef {
     EvidenceRef::new(format!("e{number}"), instant(0), "always").expect("evidence")
+}
+
+/// An event's has the event's code too, where the effective date stands: the Rust has one kind of event for all codes, and
+/// hands its evidence through unread.
+fn event_evidence(number: u16, code: u16) -> EvidenceRef {
+    EvidenceRef::new(format!("e{number}"), instant(0), format!("c{code}")).expect("evidence")
 }
 
 fn uncertainty(published: &Published) -> Uncertainty {
@@ -124,7 +125,7 @@ fn event(event: &book::Event, revision: &DatasetRevisionId) -> EventRule {
         times: event.times.iter().map(|&at| time(at)).collect(),
         applies: DateRange::new(date(event.first), date(event.last)).expect("a range"),
         uncertainty: uncertainty(&event.published),
-        evidence: evidence(event.evidence),
+        evidence: event_evidence(event.evidence, event.code),
         revision: revision.clone(),
     }
 }
@@ -216,7 +217,7 @@ fn event_answer(event: &EventOccurrence) -> Answer {
     assert_eq!(event.kind, EventKind::FundingSettlement);
     assert_eq!(event.evidence.len(), 1, "an event has its rule's evidence");
     Answer::Event {
-        code: SETTLEMENT,
+        code: number(event.evidence[0].effective_from(), 'c'),
         at: nanos(event.instant),
         doubt: doubt(&event.uncertainty),
         evidence: number(event.evidence[0].source_url(), 'e'),
@@ -252,7 +253,6 @@ impl Venue {
             ruleset: Ruleset::door_unchecked(Vec::new(), Vec::new()),
             id: id.clone(),
             changes: Vec::new(),
-            strange_codes: Vec::new(),
         };
         // A book of zero bytes: a venue that the ruleset has no entry for.
         let Some(&Record::Head { start, end, offset }) = records.first() else {
@@ -264,12 +264,7 @@ impl Venue {
                 Record::Head { .. } => {}
                 Record::Change { at, offset } => venue.changes.push((*at, *offset)),
                 Record::Rule(r) => rules.push(rule(r, &revision)),
-                Record::Event(e) => {
-                    if e.code != SETTLEMENT {
-                        venue.strange_codes.push(e.code);
-                    }
-                    events.push(event(e, &revision));
-                }
+                Record::Event(e) => events.push(event(e, &revision)),
             }
         }
         let zone = TimeZone::from_transitions(offset, &venue.changes);

@@ -2,13 +2,13 @@
 
 use crate::answer::{self, Answer};
 use crate::ask;
-use crate::given::{Query, SETTLEMENT, Venue};
+use crate::given::{Query, Venue};
 use crate::judge::LONGEST;
 use crate::random::Random;
 use crate::{Asking, books_and_windows, hex};
 use std::collections::BTreeMap;
 use std::io::Write;
-use std::process::{Command, Stdio, exit};
+use std::process::{Command, ExitStatus, Stdio, exit};
 
 /// Kind 33 with its length: start and end behind it.
 const FIRST_BYTES: usize = 20;
@@ -77,62 +77,37 @@ fn line(answer: &Answer) -> String {
     }
 }
 
-/// The number and the text of an input, with the event codes that are not compared.
-fn expected(input: &[u8]) -> (u32, String, Vec<u16>) {
-    let alone = |number| {
-        let (number, text) = refused(number);
-        (number, text, Vec::new())
-    };
+/// The number and the text of an input.
+fn expected(input: &[u8]) -> (u32, String) {
     if input.len() > LONGEST {
-        return alone(1);
+        return refused(1);
     }
     if input.len() < FIRST_BYTES || input[..4] != [18, 0, 33, 0] {
-        return alone(2);
+        return refused(2);
     }
     let edge = |at: usize| i64::from_le_bytes(input[at..at + 8].try_into().expect("8 bytes"));
     let (start, end) = (edge(4), edge(12));
     let venue = match Venue::open(&input[FIRST_BYTES..]) {
         Ok(venue) => venue,
-        Err(number) => return alone(number),
+        Err(number) => return refused(number),
     };
     if let Err(number) = venue.answer(&Query::Window { start, end }) {
-        return alone(number);
+        return refused(number);
     }
     let segments = venue.window(start, end);
     if answer::encode(&segments).len() > LONGEST {
-        return alone(16);
+        return refused(16);
     }
     let lines: String = segments.iter().map(line).collect();
     let count = segments
         .iter()
         .filter(|s| !matches!(s, Answer::Event { .. }))
         .count();
-    (
-        0,
-        format!("timeline 0 {count}\n{lines}"),
-        venue.strange_codes,
-    )
+    (0, format!("timeline 0 {count}\n{lines}"))
 }
 
-/// An event code without a kind in the Rust is not compared: it becomes the one that has a kind.
-fn without_strange_codes(text: &str, strange: &[u16]) -> String {
-    let mut made = String::new();
-    for line in text.split_inclusive('\n') {
-        let code = line
-            .strip_prefix("E ")
-            .and_then(|rest| rest.trim_end().split_once(' '))
-            .and_then(|(at, code)| Some((at, code.parse::<u16>().ok()?)));
-        match code {
-            Some((at, code)) if strange.contains(&code) => {
-                made += &format!("E {at} {SETTLEMENT}\n");
-            }
-            _ => made += line,
-        }
-    }
-    made
-}
-
-fn printed(program: &[String], input: &[u8]) -> String {
+/// What the program printed, and how it ended: a status other than 0, or a signal, is a difference too.
+fn printed(program: &[String], input: &[u8]) -> (ExitStatus, String) {
     let mut child = Command::new(&program[0])
         .args(&program[1..])
         .stdin(Stdio::piped())
@@ -142,7 +117,8 @@ fn printed(program: &[String], input: &[u8]) -> String {
     // A program that reads no further than it needs closes its end early: no fault of ours.
     let _ = child.stdin.take().expect("a pipe").write_all(input);
     let output = child.wait_with_output().expect("the program ends");
-    String::from_utf8(output.stdout).expect("text")
+    let text = String::from_utf8(output.stdout).expect("text");
+    (output.status, text)
 }
 
 /// Runs the program on so many inputs, and prints how many met each number.
@@ -155,12 +131,12 @@ pub fn run(seed: u64, from: u64, wanted: u64, program: &[String]) {
     while done < wanted {
         let mut random = Random::new(seed, place);
         for input in inputs(&mut random) {
-            let (number, text, strange) = expected(&input);
-            let got = without_strange_codes(&printed(program, &input), &strange);
-            if got != text {
+            let (number, text) = expected(&input);
+            let (status, got) = printed(program, &input);
+            if got != text || !status.success() {
                 println!("DIFFERENCE: --seed {seed} --from {place}");
                 println!("input {}", hex(&input));
-                println!("Rust\n{text}port\n{got}");
+                println!("Rust\n{text}port, {status}\n{got}");
                 exit(1);
             }
             done += 1;

@@ -45,7 +45,7 @@ mod walk;
 mod zones;
 
 use count::{By, Counts, situations};
-use given::{Query, SETTLEMENT, Venue, lend};
+use given::{Query, Venue, lend};
 use list::{Case, List, Question};
 use port::Room;
 use random::Random;
@@ -93,23 +93,6 @@ struct Place {
     book: u64,
 }
 
-/// An event code without a kind in the Rust is not compared: in the port's answer it becomes the one
-/// that has a kind. A code that the book has not stays, and differs.
-fn without_strange_codes(room: &mut [u8], length: usize, strange: &[u16]) {
-    let mut at = 0;
-    while at + 4 <= length {
-        let record = usize::from(u16::from_le_bytes([room[at], room[at + 1]])) + 2;
-        let kind = u16::from_le_bytes([room[at + 2], room[at + 3]]);
-        if kind == 18
-            && at + 6 <= length
-            && strange.contains(&u16::from_le_bytes([room[at + 4], room[at + 5]]))
-        {
-            room[at + 4..at + 6].copy_from_slice(&SETTLEMENT.to_le_bytes());
-        }
-        at += record;
-    }
-}
-
 fn hex(bytes: &[u8]) -> String {
     bytes.iter().map(|byte| format!("{byte:02x}")).collect()
 }
@@ -148,11 +131,6 @@ fn compare(
     let (mut theirs, mut ours) = (Room::new(room), Room::new(room));
     let expected = lend(&answer, theirs.bytes_mut());
     let got = port::ask(book, query, &mut ours);
-    if let (Ok(venue), 0) = (opened, got.0)
-        && got.1 <= room
-    {
-        without_strange_codes(ours.bytes_mut(), got.1, &venue.strange_codes);
-    }
     if expected != got || theirs.bytes() != ours.bytes() || !ours.guarded() {
         println!(
             "DIFFERENCE: --seed {} --from {} --books 1",
@@ -363,8 +341,7 @@ fn run_windows(arguments: &Arguments) {
     }
 }
 
-/// Writes the list that crates/replay asks again. Books with an event code that is not compared are left out, but for
-/// tallies, which show no event.
+/// Writes the list that crates/replay asks again.
 fn run_list(arguments: &Arguments, file: &str) {
     let mut list = List::default();
     let offer = |list: &mut List,
@@ -401,12 +378,6 @@ fn run_list(arguments: &Arguments, file: &str) {
         let mut random = Random::new(arguments.seed, book);
         for (bytes, wanted) in books(&mut random) {
             let opened = Venue::open(&bytes);
-            if opened
-                .as_ref()
-                .is_ok_and(|venue| !venue.strange_codes.is_empty())
-            {
-                continue;
-            }
             list.next_book();
             for at in instants(&mut random, &opened, wanted) {
                 offer(&mut list, place, &bytes, false, &opened, at, &mut random);
@@ -453,12 +424,6 @@ fn list_of_windows(arguments: &Arguments) -> List {
                 opened,
                 windows,
             } = &asking;
-            if opened
-                .as_ref()
-                .is_ok_and(|venue| !venue.strange_codes.is_empty())
-            {
-                continue;
-            }
             list.next_book();
             for &(start, end) in windows {
                 let mut counts = Counts::default();

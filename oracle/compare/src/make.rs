@@ -1,7 +1,6 @@
 //! Generated books of every shape.
 
 use crate::book::{Event, Published, Record, Rule};
-use crate::given::SETTLEMENT;
 use crate::judge::{DAY, DAYS, INSTANTS, OFFSETS, SECOND, SECONDS, SPACING, WIDTHS};
 use crate::random::Random;
 use std::collections::{BTreeMap, BTreeSet};
@@ -203,7 +202,8 @@ pub fn rule(random: &mut Random, firsts: &[i32], pool: &[u64]) -> Rule {
     }
 }
 
-pub fn event(random: &mut Random, firsts: &[i32], pool: &[u64], settled: bool) -> Event {
+/// An event with any code, or with code 1 where all of a book have one.
+pub fn event(random: &mut Random, firsts: &[i32], pool: &[u64], alike: bool) -> Event {
     let (first, last) = if random.percent(50) {
         (DAYS[0], DAYS[1])
     } else {
@@ -213,11 +213,7 @@ pub fn event(random: &mut Random, firsts: &[i32], pool: &[u64], settled: bool) -
     Event {
         first,
         last,
-        code: if settled {
-            SETTLEMENT
-        } else {
-            number16(random)
-        },
+        code: if alike { 1 } else { number16(random) },
         evidence: number16(random),
         published: published(random),
         times: (0..many)
@@ -297,9 +293,9 @@ pub fn book(random: &mut Random) -> Vec<Record> {
         }
         others.push(Record::Rule(made));
     }
-    let settled = random.percent(80);
+    let alike = random.percent(20);
     for _ in 0..size.events {
-        others.push(Record::Event(event(random, &firsts, &pool, settled)));
+        others.push(Record::Event(event(random, &firsts, &pool, alike)));
     }
     random.shuffle(&mut others);
     // Kinds come in any order; clock changes keep theirs.
@@ -375,9 +371,9 @@ pub fn overlap(random: &mut Random) -> Vec<Record> {
         other.points = vec![(0, phase)];
         rules.push(other);
     }
-    let settled = random.percent(90);
+    let alike = random.percent(20);
     let events = (0..1 + random.below(3)).map(|_| {
-        let mut made = event(random, &[DAYS[0]], &[0], settled);
+        let mut made = event(random, &[DAYS[0]], &[0], alike);
         (made.first, made.last) = (DAYS[0], DAYS[1]);
         let many = 1 + random.below(8);
         made.times = (0..many)

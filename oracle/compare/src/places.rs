@@ -3,7 +3,7 @@
 
 use crate::answer::{Answer, decode};
 use crate::book::{self, Event, Published, Record, Rule};
-use crate::given::{Query, SETTLEMENT, Venue, lend};
+use crate::given::{Query, Venue, lend};
 use crate::judge::{DAYS, INSTANTS, SECOND};
 use crate::port::{self, Room};
 use crate::row_places;
@@ -68,7 +68,7 @@ fn events(times: &[i64]) -> Record {
     Record::Event(Event {
         first: DAYS[0],
         last: DAYS[1],
-        code: SETTLEMENT,
+        code: 7,
         evidence: 7,
         published: Published::tagged(1),
         times: times.iter().map(|time| (time * SECOND) as u64).collect(),
