@@ -1,4 +1,6 @@
 // Answers, written into lent room. Instants and uncertainties are written as document 01's signed numbers.
+#![tactic(auto)]
+
 mod fields;
 mod put;
 
@@ -14,7 +16,7 @@ pub use put::{
 use zone::{Boundary, Instant, Uncertainty};
 
 // A phase answer: its span, its rule's numbers, its boundaries, its whole uncertainty and how many events follow.
-#[derive(Drop)]
+#[derive(Clone, Copy)]
 pub struct Phase {
     pub start: Instant,
     pub end: Instant,
@@ -30,7 +32,7 @@ pub struct Phase {
 }
 
 // Coverage, if there is any.
-#[derive(Drop)]
+#[derive(Clone, Copy)]
 pub enum Covered {
     Nothing,
     Between(Instant, Instant),

@@ -31,7 +31,7 @@ fn put_span(out: &mut [u8], at: usize, start: Instant, end: Instant) -> usize
     put_instant(out, a, end)
 }
 
-#[derive(Drop)]
+#[derive(Clone, Copy)]
 struct Parts {
     tag: u8,
     one: u64,

@@ -8,7 +8,7 @@ use wire::{HALF8, Placed, place};
 
 // Where a window starts, as a placed number, how long it is, how many columns it has, and the marker's column: `columns`, which is none
 // of them, where there is no marker.
-#[derive(Drop)]
+#[derive(Clone, Copy)]
 pub(crate) struct Grid {
     pub(crate) start: u64,
     pub(crate) span: u64,
@@ -17,14 +17,14 @@ pub(crate) struct Grid {
 }
 
 // From a column's instant to the next one's: the quotient and the remainder of the span by the columns.
-#[derive(Drop)]
+#[derive(Clone, Copy)]
 pub(crate) struct Pace {
     pub(crate) whole: u64,
     pub(crate) rest: u64,
 }
 
 // A column, the instant that it shows, and the remainder of the division in that instant: span x c by the columns.
-#[derive(Drop)]
+#[derive(Clone, Copy)]
 pub(crate) struct Column {
     pub(crate) c: u64,
     pub(crate) at: u64,
@@ -32,7 +32,7 @@ pub(crate) struct Column {
 }
 
 // A mixed number of spans: so many, and a part of one.
-#[derive(Drop)]
+#[derive(Clone, Copy)]
 struct Mixed {
     whole: u64,
     part: u64,

@@ -1,4 +1,6 @@
 // The board: a timeline's bytes, as a host kept them, drawn as cells.
+#![tactic(auto)]
+
 mod cells;
 mod grid;
 

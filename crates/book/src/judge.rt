@@ -16,7 +16,7 @@ use wire::{get1, get2, get8, signed4, signed8};
 use zone::{DAY_NS, SPACING};
 
 // The records seen so far: how many of each kind, and the earliest second that the next transition may have, placed.
-#[derive(Drop)]
+#[derive(Clone, Copy)]
 pub(crate) struct Seen {
     pub coverages: u32,
     pub transitions: u32,

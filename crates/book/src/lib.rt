@@ -1,5 +1,7 @@
 // A venue's book: accepted or refused.
 
+#![tactic(auto)]
+
 mod judge;
 mod verdict;
 

@@ -1,4 +1,6 @@
 // A window asked of a book: the book is judged before the window.
+#![tactic(auto)]
+
 ghost use Rattle.std.specs.Prelude.{◌≡◌};
 ghost use Rattle.venue.specs.Opening.{number_opened};
 ghost use Rattle.query.specs.Judging.{window_refusal, window_of};
@@ -9,7 +11,7 @@ use venue::{Header, Opened};
 use zone::Instant;
 
 // By what opening the book answered: a number refuses one of the two, or the book is a venue without data, or it names one.
-#[derive(Drop)]
+#[derive(Clone, Copy)]
 pub enum Judged {
     Refused(u32),
     Blank(Instant, Instant),

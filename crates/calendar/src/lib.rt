@@ -1,4 +1,6 @@
 // Dates of the Gregorian calendar from 1900-01-01 to 2199-12-31 and document 01's day numbers of them, days since 1970-01-01.
+#![tactic(auto)]
+
 ghost use Rattle.std.specs.Prelude.{◌≡◌, true, suc, ◌+◌, ◌-◌, ◌≤◌, ◌<◌};
 ghost use Rattle.std.proofs.Math.Option.{some};
 ghost use Rattle.calendar.specs.Gregorian.{first_year, total, leap, year_days, month_days, day_number};
@@ -7,10 +9,10 @@ ghost use Rattle.calendar.specs.Answers.{first_day, last_day, meaning, within, n
 use wire::{HALF4, Placed4, place4, unplace4};
 
 // Days since 1899-12-25, the Monday before 1900-01-01: nothing in the domain is negative, and the weekday is a remainder.
-#[derive(Drop)]
+#[derive(Clone, Copy)]
 pub struct Day(pub u32);
 
-#[derive(Drop)]
+#[derive(Clone, Copy)]
 pub struct Date {
     pub year: u32,
     pub month: u32,
@@ -18,21 +20,21 @@ pub struct Date {
 }
 
 // A day number, where there is one.
-#[derive(Drop)]
+#[derive(Clone, Copy)]
 pub enum Numbered {
     Number(i32),
     NoNumber,
 }
 
 // A Day, where there is one.
-#[derive(Drop)]
+#[derive(Clone, Copy)]
 pub enum Found {
     On(Day),
     NoDay,
 }
 
 // A date, where there is one.
-#[derive(Drop)]
+#[derive(Clone, Copy)]
 pub enum Dated {
     Is(Date),
     NoDate,

@@ -1,5 +1,7 @@
 // What the programs share that compare a crate with a list of cases. A list has blocks of 65,536 bytes; a block has records, each
 // a kind, a byte, and signed numbers of 8 bytes, and zeros behind the last.
+#![tactic(auto)]
+
 ghost use Rattle.std.specs.Prelude.{◌≡◌};
 ghost use Rattle.cases.specs.Cases.{number_at, more, met_of};
 

@@ -13,7 +13,7 @@ use rows::{BAD_ROW, RowSegment, Shows, Stands, read_event, read_segment, stands_
 use wire::place;
 
 // The class of a row; and if a mark follows it, the place behind the mark.
-#[derive(Drop)]
+#[derive(Clone, Copy)]
 pub(crate) enum Classed {
     Bad,
     Last(Class),

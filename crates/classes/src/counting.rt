@@ -11,7 +11,7 @@ use query::{Asked, OUTSIDE, asked_at};
 use rows::{BAD_ROW, Stands, stands_at};
 use wire::place;
 
-#[derive(Drop)]
+#[derive(Clone, Copy)]
 pub(crate) struct Counts {
     pub(crate) venues: u64,
     pub(crate) trading: u64,

@@ -1,4 +1,6 @@
 // The class of a row at an instant, and how many rows are of each class, from a timeline's bytes as a host kept them.
+#![tactic(auto)]
+
 mod classing;
 mod counting;
 
@@ -6,7 +8,7 @@ pub use classing::class_answer;
 pub use counting::count_answer;
 
 // What a row shows at an instant.
-#[derive(Drop)]
+#[derive(Clone, Copy)]
 pub enum Class {
     Trading,
     NotTrading,
@@ -16,7 +18,7 @@ pub enum Class {
 
 // A number of document 01, 0 for an answer, and the class's number, 0 beside a refusal.
 #[repr(C)]
-#[derive(Drop)]
+#[derive(Clone, Copy)]
 pub struct ClassReply {
     pub number: u32,
     pub shown: u32,
@@ -24,7 +26,7 @@ pub struct ClassReply {
 
 // A number of document 01, 0 for an answer, and how many rows there are, and how many of each class but the last. All 0 beside a refusal.
 #[repr(C)]
-#[derive(Drop)]
+#[derive(Clone, Copy)]
 pub struct CountReply {
     pub number: u32,
     pub venues: u64,

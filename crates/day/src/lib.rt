@@ -1,5 +1,7 @@
 // What a rule says of a date, and what a date says of an instant.
 
+#![tactic(auto)]
+
 mod cut;
 mod govern;
 mod keep;
@@ -14,14 +16,14 @@ pub use resolve::{day_segment_after, resolve_phase};
 use zone::Boundary;
 
 // The rule that governs a date, by where it stands in the book.
-#[derive(Drop)]
+#[derive(Clone, Copy)]
 pub enum Governed {
     Nothing,
     By(u32),
 }
 
 // A whole span of a date: its two boundaries, its phase, and its rule by where it stands in the book.
-#[derive(Drop)]
+#[derive(Clone, Copy)]
 pub struct DaySegment {
     pub start: Boundary,
     pub end: Boundary,
@@ -30,7 +32,7 @@ pub struct DaySegment {
 }
 
 // A span, where there is one. As a point's answer: known, or not.
-#[derive(Drop)]
+#[derive(Clone, Copy)]
 pub enum Spanned {
     Missing,
     Whole(DaySegment),

@@ -1,4 +1,6 @@
 // The events of a span, in order, one after the other.
+#![tactic(auto)]
+
 mod seek;
 mod steady;
 
@@ -6,7 +8,7 @@ pub use seek::{count_events, search_events};
 pub use steady::{Collected, collect, next_kept};
 use zone::{Boundary, Instant};
 
-#[derive(Drop)]
+#[derive(Clone, Copy)]
 pub struct Occurrence {
     pub code: u16,
     pub boundary: Boundary,
@@ -14,7 +16,7 @@ pub struct Occurrence {
 }
 
 // The next event and its number among those found, if there is one.
-#[derive(Drop)]
+#[derive(Clone, Copy)]
 pub enum Best {
     None,
     Some(Occurrence, usize),
@@ -22,7 +24,7 @@ pub enum Best {
 
 // A search among the events found: how many were met, and the first of them, by instant and number, from the number `index` at the
 // instant `at` on.
-#[derive(Drop)]
+#[derive(Clone, Copy)]
 pub struct Search {
     pub at: Instant,
     pub index: usize,

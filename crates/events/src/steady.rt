@@ -15,7 +15,7 @@ use venue::{event_first, event_last, event_time, event_times};
 use zone::{Instant, Steady, steady_day, steady_midnight, steady_offset};
 
 // How many events were found; `Unsteady` where a transition is near.
-#[derive(Drop)]
+#[derive(Clone, Copy)]
 pub enum Collected {
     Unsteady,
     All(usize),

@@ -1,4 +1,6 @@
 // Joining, document 01's phase rule 5: which spans join, and what joined spans become.
+#![tactic(auto)]
+
 ghost use Rattle.std.specs.Prelude.{◌≡◌, ◌+◌, ◌^◌, ◌<◌, cond};
 ghost use Rattle.joining.specs.Amending.{is_joinable, merged_phase};
 ghost use Rattle.joining.specs.declared.Last.TheVariants.{Nothing, Shows};
@@ -7,7 +9,7 @@ use answer::Phase;
 use zone::{Instant, widest};
 
 // What the last span showed: where it ended, its phase and its evidence.
-#[derive(Drop)]
+#[derive(Clone, Copy)]
 pub enum Last {
     Nothing,
     Shows(Instant, u8, u16),

@@ -1,4 +1,6 @@
 // What every entry point gives back beside the room that it was lent.
+#![tactic(auto)]
+
 ghost use Rattle.std.specs.Prelude.{◌≡◌};
 
 // Document 01's number where the answer is longer than the room.
@@ -6,7 +8,7 @@ pub const NO_ROOM: u32 = 16;
 
 // A number of document 01, 0 for an answer, and the answer's length.
 #[repr(C)]
-#[derive(Drop)]
+#[derive(Clone, Copy)]
 pub struct Reply {
     pub number: u32,
     pub length: usize,

@@ -1,4 +1,6 @@
 // What the listing program prints: the timeline of a window of a book as text, line by line.
+#![tactic(auto)]
+
 mod lines;
 mod reply;
 mod text;

@@ -1,4 +1,6 @@
 // The boundary: what the dashboard's server links against, as C functions. Every entry takes every book, row, query and room.
+#![tactic(auto)]
+
 ghost use Rattle.std.specs.Prelude.{◌≡◌};
 ghost use Rattle.board.specs.Cells.{cells_number, cells_answer};
 ghost use Rattle.classes.specs.Classes.{class_reply, count_reply};

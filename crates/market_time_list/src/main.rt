@@ -1,4 +1,6 @@
 // The listing program: reads a window and a book on standard input, and prints the timeline of the window. All of it is in `listing`.
+#![tactic(auto)]
+
 use libc::{STDIN_FILENO, STDOUT_FILENO};
 use listing::{MOST_BYTES, TEXT_BYTES, list_text};
 

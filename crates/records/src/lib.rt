@@ -1,5 +1,7 @@
 // The records of a venue's book: where their fields stand, how many there may be, and which phases are trading.
 
+#![tactic(auto)]
+
 mod fields;
 mod limits;
 mod phase;

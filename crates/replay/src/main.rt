@@ -1,6 +1,8 @@
 // Asks the port again what the original Rust was asked, from a fixed list. It compares the reply's number, its length and every byte of the
 // room, and prints how many it met of each number and kind of answer and how many differed. `tools/compare list` makes the list, and
 // oracle/compare/src/list.rs says how.
+#![tactic(auto)]
+
 ghost use Rattle.std.specs.Prelude.{◌^◌, ◌≤◌, ◌<◌};
 
 use answer::{MISSING_KIND, PHASE_KIND};
@@ -59,7 +61,7 @@ const AS_IT_WAS: u8 = 0xa5;
 const NO_SUCH_ROOM: u32 = 1000;
 
 // A window's start and end, or an instant as the start. The rest is of cells: columns, and the now, which counts where it is marked.
-#[derive(Drop)]
+#[derive(Clone, Copy)]
 struct Query {
     entry: u8,
     start: i64,

@@ -1,5 +1,7 @@
 // Rows of a timeline's bytes, as a host kept them: judged and read record by record.
 
+#![tactic(auto)]
+
 mod judge;
 mod reading;
 
@@ -11,7 +13,7 @@ use wire::Placed;
 pub const BAD_ROW: u32 = 15;
 
 // What stands at a place: nothing that may stand there, the end, a row's mark, a segment, or an event of the last phase.
-#[derive(Drop)]
+#[derive(Clone, Copy)]
 pub enum Stands {
     Bad,
     End,
@@ -21,14 +23,14 @@ pub enum Stands {
 }
 
 // What a segment shows: a phase with its evidence, or that nothing is known.
-#[derive(Drop)]
+#[derive(Clone, Copy)]
 pub enum Shows {
     Phase(u8, u16),
     Unknown,
 }
 
 // A segment, how many events follow it, and the place behind it, where the first of them stands.
-#[derive(Drop)]
+#[derive(Clone, Copy)]
 pub struct RowSegment {
     pub from: Placed,
     pub to: Placed,
@@ -38,7 +40,7 @@ pub struct RowSegment {
 }
 
 // An event, and the place behind it.
-#[derive(Drop)]
+#[derive(Clone, Copy)]
 pub struct Event {
     pub at: Placed,
     pub code: u16,

@@ -1,4 +1,6 @@
 // What a span of a date is as records: its phase, and its events behind it.
+#![tactic(auto)]
+
 ghost use Rattle.std.specs.Prelude.{ℕ, ◌*◌, ◌≤◌, ◌<◌, ◌≡◌, map, length, get_or};
 ghost use Rattle.wire.specs.Fields.{Inside, Put};
 ghost use Rattle.zone.specs.Zone.{zone_of};
@@ -50,7 +52,7 @@ pub fn phase_of(
 }
 
 // A span's events as they are written: the place behind them, and how many they are.
-#[derive(Drop)]
+#[derive(Clone, Copy)]
 pub struct Trail {
     pub behind: usize,
     pub count: usize,

@@ -1,4 +1,6 @@
 // The pages of a tally: its rows, filled and written one after the other while the stretches of a window come.
+#![tactic(auto)]
+
 mod count;
 mod cuts;
 
@@ -10,7 +12,7 @@ use zone::Instant;
 pub const UNKNOWN: usize = 8;
 
 // The row that is open, and where its record will stand.
-#[derive(Drop)]
+#[derive(Clone, Copy)]
 pub struct OpenRow {
     pub start: Instant,
     pub end: Instant,

@@ -1,5 +1,7 @@
 // Judges a list of books and compares the numbers that they get, and prints how many it met of each number and how many differed.
 // tools/books.py makes the list and says how.
+#![tactic(auto)]
+
 ghost use Rattle.std.specs.Prelude.{◌≤◌};
 
 use cases::{ZERO, met, number, report, report_refusals};

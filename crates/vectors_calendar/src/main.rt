@@ -1,5 +1,7 @@
 // Compares the calendar crate with published dates and with an outside calendar's, and prints how many it met and how many differed.
 // tools/vectors.py makes the list and says how.
+#![tactic(auto)]
+
 ghost use Rattle.std.specs.Prelude.{◌≤◌};
 
 use calendar::{Dated, Found, Numbered};

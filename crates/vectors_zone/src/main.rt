@@ -1,5 +1,7 @@
 // Compares the zone crate with outside readings, and prints how many it met of each kind and how many differed. tools/vectors.py makes
 // the list and says how.
+#![tactic(auto)]
+
 ghost use Rattle.std.specs.Prelude.{◌≤◌, ◌<◌, length};
 ghost use Rattle.zone.specs.Answers.{Valid};
 
@@ -67,7 +69,7 @@ fn offset(p: Placed) -> u32 {
 }
 
 // What the wall shows, as a date and a time of day.
-#[derive(Drop)]
+#[derive(Clone, Copy)]
 struct Wall {
     day: Day,
     time: u64,
@@ -165,7 +167,7 @@ fn cases(
 }
 
 // How many transitions a zone has, and where its cases begin.
-#[derive(Drop)]
+#[derive(Clone, Copy)]
 struct Held {
     count: usize,
     next: usize,

@@ -1,5 +1,7 @@
 // A book opened: its coverage, clock changes, rules and events.
 
+#![tactic(auto)]
+
 mod opened;
 mod read;
 

@@ -16,7 +16,7 @@ use wire::{get2, signed4, signed8};
 use zone::{Instant, instant_of, instant_of_seconds};
 
 // Coverage, the first offset, in seconds plus 57,600, and how many of each kind there are.
-#[derive(Drop)]
+#[derive(Clone, Copy)]
 pub struct Header {
     pub start: Instant,
     pub end: Instant,
@@ -27,7 +27,7 @@ pub struct Header {
 }
 
 // An empty book is a venue without data.
-#[derive(Drop)]
+#[derive(Clone, Copy)]
 pub enum Opened {
     Refused(u32),
     Empty,
@@ -35,7 +35,7 @@ pub enum Opened {
 }
 
 // How many clock changes, rules and events there are.
-#[derive(Drop)]
+#[derive(Clone, Copy)]
 struct Counts {
     transitions: usize,
     rules: usize,

@@ -1,5 +1,7 @@
 // The walk over the covered part of a window, one span after the other.
 
+#![tactic(auto)]
+
 mod steady;
 mod step;
 mod turn;
@@ -19,7 +21,7 @@ pub const MOST_TURNS: u32 = 3_660;
 
 // Where a walk stands: how many turns are left after this one, the cursor as the turn began and as it is now, the turn's date, the rule
 // that governs it, which of the date's spans is next, and whether none of the date's boundaries is in doubt.
-#[derive(Drop)]
+#[derive(Clone, Copy)]
 pub struct Walk {
     pub turns: u32,
     pub began: Instant,
@@ -32,7 +34,7 @@ pub struct Walk {
 
 // What shows of a date's span, from `from` to before `to`; and the span, from `start` to before `end`, by a point of a rule. Where it is
 // clear, neither boundary is in doubt: both are as precise as the rule says. The walk goes on from `turns` and `began`.
-#[derive(Drop)]
+#[derive(Clone, Copy)]
 pub struct Piece {
     pub from: Instant,
     pub to: Instant,
@@ -47,14 +49,14 @@ pub struct Piece {
 }
 
 // The next piece of the date at hand.
-#[derive(Drop)]
+#[derive(Clone, Copy)]
 pub enum NextPiece {
     Done,
     Next(Piece),
 }
 
 // The next turn of a walk.
-#[derive(Drop)]
+#[derive(Clone, Copy)]
 pub enum NextTurn {
     Done,
     On(Walk),

@@ -1,5 +1,7 @@
 // The walk over a window joined and told as records, in two passes: one sizes, one writes.
 
+#![tactic(auto)]
+
 mod put;
 mod size;
 

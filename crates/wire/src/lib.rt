@@ -1,5 +1,7 @@
 // Little-endian fields of 1, 2, 4 and 8 bytes, read from a byte slice and written to one, and signed
 // numbers placed: as numbers that are never negative, in the same order.
+#![tactic(auto)]
+
 mod get;
 mod put;
 mod sign;

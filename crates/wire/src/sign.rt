@@ -4,11 +4,11 @@ ghost use Rattle.std.specs.Int.{w32, w64};
 ghost use Rattle.wire.specs.Signs.{placed, meant, turned};
 
 // Any i64 plus 2^63.
-#[derive(Drop)]
+#[derive(Clone, Copy)]
 pub struct Placed(pub u64);
 
 // Any i32 plus 2^31.
-#[derive(Drop)]
+#[derive(Clone, Copy)]
 pub struct Placed4(pub u32);
 
 pub const HALF8: u64 = 0x8000_0000_0000_0000;

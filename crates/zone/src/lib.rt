@@ -1,4 +1,6 @@
 // Instants and a venue's wall readings, after RFC 9636: the only crate that adds an offset or takes one away.
+#![tactic(auto)]
+
 mod convert;
 mod dated;
 mod number;
@@ -44,22 +46,22 @@ pub(crate) const FIRST_INSTANT: u64 = (FIRST_DAY as u64 - 6) * DAY_NS;
 pub(crate) const LAST_INSTANT: u64 = (LAST_DAY as u64 + 8) * DAY_NS;
 
 // Nanoseconds since 1899-12-25T00:00 UTC.
-#[derive(Drop)]
+#[derive(Clone, Copy)]
 pub struct Instant(pub u64);
 
 // Nanoseconds since 1899-12-25T00:00 on a venue's wall.
-#[derive(Drop)]
+#[derive(Clone, Copy)]
 pub struct Reading(pub u64);
 
 // A reading that a transition makes doubtful, by the offset before the transition and by the one after it.
-#[derive(Drop)]
+#[derive(Clone, Copy)]
 pub struct Doubt {
     pub before: Instant,
     pub after: Instant,
 }
 
 // The instants of a reading: one, two, or none.
-#[derive(Drop)]
+#[derive(Clone, Copy)]
 pub enum Resolution {
     Clear(Instant),
     Fold(Doubt),
@@ -67,7 +69,7 @@ pub enum Resolution {
 }
 
 // How precisely an instant is known. A width is in nanoseconds, a text is a number.
-#[derive(Drop)]
+#[derive(Clone, Copy)]
 pub enum Uncertainty {
     Exact,
     PublishedGranularity(u64),
@@ -77,7 +79,7 @@ pub enum Uncertainty {
     NonexistentLocalTime(Doubt),
 }
 
-#[derive(Drop)]
+#[derive(Clone, Copy)]
 pub struct Boundary {
     pub at: Instant,
     pub uncertainty: Uncertainty,

@@ -10,7 +10,7 @@ use crate::{DAY_NS, FIRST_TRANSITION, Instant, LAST_TRANSITION, MOST_OFFSET_NS, 
 use calendar::{Day, FIRST_DAY, LAST_DAY};
 
 // The offset, in seconds plus 57,600, where no transition is near.
-#[derive(Drop)]
+#[derive(Clone, Copy)]
 pub enum Steady {
     No,
     By(u32),

@@ -6,7 +6,7 @@ ghost use Rattle.zone.specs.Private.{bound};
 use crate::Uncertainty;
 
 // How wide an uncertainty is.
-#[derive(Drop)]
+#[derive(Clone, Copy)]
 pub enum Width {
     Nanos(u64),
     Unbounded,

@@ -24,43 +24,43 @@ judged : {o p : Opened} {w v : Window} {m n : ℤ} → o ≡ p → SFits w64 m �
     → (number_judged (judged_by p w) ≡ number_opened o (window_refusal m n)) × (judged_by p w ≡ judged_by o (window_of m n))
 judged {o} {m = m} {n = n} e i j f g = numbered o m n (sym (ap₂ judged_by e (sym (f ∙ ap₂ window_of (to_z-of_z w64 m i) (to_z-of_z w64 n j)) ∙ g)))
 
-returns : tie.Need-returns
+returns : tie.Need-returns-in-Refused
 returns c =
     let at-opened = c.before in
     let args = at-opened.before.before.args in
-    numbered args.opened args.start args.end (sym (ap (λ (o : Opened). judged_by o (window_of args.start args.end)) at-opened.opened.given.1))
+    numbered args.opened-1 args.start args.end (sym (ap (λ (o : Opened). judged_by o (window_of args.start args.end)) at-opened.opened-1.given.1))
 
-returns_2 : tie.Need-returns-2
+returns_2 : tie.Need-returns-in-Refused-asked_window
 returns_2 c =
     let at_n = c.before in
     let at-asked-window = at_n.before.before in
     let at-enum-told = at-asked-window.before in
     let fits = at-enum-told.before.before.ranges in
-    judged at-enum-told.enum_told.given.1 fits.start fits.end at-asked-window.asked-window.ensures.1 at_n.n.given.1
+    judged at-enum-told.enum_told-1.given.1 fits.start fits.end at-asked-window.asked_window.ensures.1 at_n.n-1.given.1
 
-returns_3 : tie.Need-returns-3
+returns_3 : tie.Need-returns-in-Between
 returns_3 c =
     let at_a = c.before in
     let at-asked-window = at_a.before.before in
     let at-enum-told = at-asked-window.before in
     let fits = at-enum-told.before.before.ranges in
-    judged at-enum-told.enum_told.given.1 fits.start fits.end at-asked-window.asked-window.ensures.1 at_a.a.given.1
+    judged at-enum-told.enum_told-1.given.1 fits.start fits.end at-asked-window.asked_window.ensures.1 at_a.a-1.given.1
 
-returns_4 : tie.Need-returns-4
+returns_4 : tie.Need-returns-in-Refused-asked_window-2
 returns_4 c =
     let at-n2 = c.before in
     let at-asked-window2 = at-n2.before.before in
     let at-opened2 = at-asked-window2.before.before in
     let fits = at-opened2.before.before.ranges in
-    judged at-opened2.opened2.given.1 fits.start fits.end at-asked-window2.asked-window2.ensures.1 at-n2.n2.given.1
+    judged at-opened2.opened-in-Venue-1.given.1 fits.start fits.end at-asked-window2.asked_window-in-Venue.ensures.1 at-n2.n-in-Refused-asked_window-2-1.given.1
 
-returns_5 : tie.Need-returns-5
+returns_5 : tie.Need-returns-in-Between-asked_window
 returns_5 c =
     let at-a2 = c.before in
     let at-asked-window2 = at-a2.before.before in
     let at-opened2 = at-asked-window2.before.before in
     let fits = at-opened2.before.before.ranges in
-    judged at-opened2.opened2.given.1 fits.start fits.end at-asked-window2.asked-window2.ensures.1 at-a2.a2.given.1
+    judged at-opened2.opened-in-Venue-1.given.1 fits.start fits.end at-asked-window2.asked_window-in-Venue.ensures.1 at-a2.a-in-Between-asked_window-2-1.given.1
 
 pub judged_window_spec : {M : Type 1} → statement M
 judged_window_spec =

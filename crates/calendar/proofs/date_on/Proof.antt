@@ -11,12 +11,12 @@ use borrow.Author.Rules.{rules}
 use Rattle.calendar.proofs.date_on.Statement.{statement}
 use Rattle.calendar.proofs.date_on.Tie as tie
 
-month_of_requires : tie.Need-month-of-requires
+month_of_requires : tie.Need-month_of-month-requires
 month_of_requires c κs =
     let at-is-leap = c in
     let at-year-of = at-is-leap.before.before in
-    let k = at-year-of.year-of.result in
-    rw at-is-leap.is-leap.ensures (omega (arith, next year_days first_year k, year_months (first_year + k)))
+    let k = at-year-of.year_of-k.result in
+    rw at-is-leap.is_leap-leap_year.ensures (omega (arith, next year_days first_year k, year_months (first_year + k)))
 
 returns : tie.Need-returns
 returns c =
@@ -26,12 +26,12 @@ returns c =
     let at-year-start = at-is-leap.before in
     let at-year-of = at-year-start.before in
     let at-start = at-year-of.before in
-    let k = at-year-of.year-of.result in
-    let m = at-month-of.month-of.result in
+    let k = at-year-of.year_of-k.result in
+    let m = at-month-of.month_of-month.result in
     let size = month_days (leap (first_year + k)) in
-    let in-month = rw at-is-leap.is-leap.ensures at at-month-of.month-of.ensures in
-    let begun = rw at-is-leap.is-leap.ensures at at-month-start.month-start.ensures in
-    let j = at-start.args.d.0 - at-year-start.year-start.result - at-month-start.month-start.result in
+    let in-month = rw at-is-leap.is_leap-leap_year.ensures at at-month-of.month_of-month.ensures in
+    let begun = rw at-is-leap.is_leap-leap_year.ensures at at-month-start.month_start-before.ensures in
+    let j = at-start.args.d.0 - at-year-start.year_start.result - at-month-start.month_start-before.result in
     let x = made k m j (omega arith) (omega arith) (omega (arith, next_from_one size m (omega arith))) in
     let on : day_on (first_year + k) m (j + 1) ≡ at-start.args.d.0 = omega (arith, x.1) in
     has_number (first_year + k) m (j + 1) x.0 ∙ ap (λ n. some (meaning n)) on

@@ -5,20 +5,20 @@ use borrow.Author.Rules.{rules}
 use Rattle.calendar.proofs.day_number.Statement.{statement}
 use Rattle.calendar.proofs.day_number.Tie as tie
 
-returns : tie.Need-returns
+returns : tie.Need-returns-in-On
 returns c =
     let at-number-of = c in
     let at-d = at-number-of.before.before in
     let at-day-on = at-d.before.before in
     let at-start = at-day-on.before in
-    let on = ap found (sym at-d.d.given.1) ∙ at-day-on.day-on.ensures in
+    let on = ap found (sym at-d.d-1.given.1) ∙ at-day-on.day_on.ensures in
     at-number-of.number_of_lem.ensures ∙ date_within at-start.args.year at-start.args.month at-start.args.day _ (sym on) ∙ on
 
-returns_2 : tie.Need-returns-2
+returns_2 : tie.Need-returns-in-NoDay
 returns_2 c =
     let at-enum-told = c in
     let at-day-on = at-enum-told.before.before in
-    ap found (sym at-enum-told.enum_told.given.1) ∙ at-day-on.day-on.ensures
+    ap found (sym at-enum-told.enum_told-1.given.1) ∙ at-day-on.day_on.ensures
 
 pub day_number_spec : {M : Type 1} → statement M
 day_number_spec =

@@ -7,25 +7,25 @@ use borrow.Author.Rules.{rules}
 use Rattle.calendar.proofs.month_days.Statement.{statement}
 use Rattle.calendar.proofs.month_days.Tie as tie
 
-returns : tie.Need-returns
+returns : tie.Need-returns-then-m-gt12
 returns c =
     let at-if1 = c in
     let at-start = at-if1.before in
-    (sym (no_month at-start.args.leap-year at-start.args.month at-if1.if1.true), omega arith)
+    (sym (no_month at-start.args.leap-year at-start.args.month at-if1.if-m-gt12.true), omega arith)
 
-returns_2 : tie.Need-returns-2
+returns_2 : tie.Need-returns-then-leap_year
 unfolding month_days
 returns_2 c =
     let at-if2 = c in
     let at-start = at-if2.before.before in
-    (rw at-if2.if2.true, month_most true at-start.args.month)
+    (rw at-if2.if-leap_year.true, month_most true at-start.args.month)
 
-returns_3 : tie.Need-returns-3
+returns_3 : tie.Need-returns-else-leap_year
 unfolding month_days
 returns_3 c =
     let at-if2 = c in
     let at-start = at-if2.before.before in
-    (rw at-if2.if2.false, month_most false at-start.args.month)
+    (rw at-if2.if-leap_year.false, month_most false at-start.args.month)
 
 pub month_days_spec : {M : Type 1} → statement M
 month_days_spec =

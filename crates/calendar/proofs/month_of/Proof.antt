@@ -7,22 +7,22 @@ use native.Mathlib.Omega.{arith}
 use Rattle.calendar.proofs.month_of.Statement.{statement}
 use Rattle.calendar.proofs.month_of.Tie as tie
 
-abbrev invariant-loop : tie.invariant-loop
+abbrev invariant-loop : tie.invariant-loop-m
 invariant-loop leap-year day m₀ m = (1 ≤ m) × (m ≤ 12) × (total (month_days leap-year) 1 (m - 1) ≤ day)
 
-abbrev decreases-loop : tie.decreases-loop
+abbrev decreases-loop : tie.decreases-loop-m
 decreases-loop leap-year day m₀ m = 13 - m
 
-loop_holds : tie.Need-loop-init invariant-loop decreases-loop
+loop_holds : tie.Need-loop-m-init invariant-loop decreases-loop
 loop_holds c =
     let at-start = c in
     omega (arith, none (month_days at-start.args.leap-year) 1)
 
-loop_again : tie.Need-loop-preserved invariant-loop decreases-loop
+loop_again : tie.Need-loop-m-preserved invariant-loop decreases-loop
 loop_again c =
     let at-loop = c.before.before in
     let at-start = at-loop.before in
-    let m = at-loop.loop.m in
+    let m = at-loop.loop-m.m in
     let size = month_days at-start.args.leap-year in
     let z : m + 1 - 1 ≡ m = omega arith in
     let y : m - 1 + 1 ≡ m = omega arith in
@@ -34,7 +34,7 @@ returns : tie.Need-returns invariant-loop decreases-loop
 returns c =
     let at-loop = c.before.before in
     let at-start = at-loop.before in
-    let m = at-loop.loop.m in
+    let m = at-loop.loop-m.m in
     let z : m + 1 - 1 ≡ m = omega arith in
     omega (arith, ap (total (month_days at-start.args.leap-year) 1) z)
 

@@ -11,19 +11,19 @@ use borrow.Author.Rules.{rules}
 use Rattle.calendar.proofs.number_of.Statement.{statement}
 use Rattle.calendar.proofs.number_of.Tie as tie
 
-returns : tie.Need-returns
+returns : tie.Need-returns-then-n-lt-FIRST_DAY
 returns c =
     let at-start = c.before in
     let n = at-start.args.d.0 in
     sym (ap within (day_placed n) ∙ within_low (n + day_zero) (omega arith))
 
-returns_2 : tie.Need-returns-2
+returns_2 : tie.Need-returns-then-n-gt-LAST_DAY
 returns_2 c =
     let at-start = c.before.before in
     let n = at-start.args.d.0 in
     sym (ap within (day_placed n) ∙ within_high (n + day_zero) (omega arith))
 
-returns_3 : tie.Need-returns-3
+returns_3 : tie.Need-returns
 returns_3 c =
     let at-unplace4 = c in
     let at-start = at-unplace4.before.before.before in

@@ -3,19 +3,19 @@ use borrow.Author.Tests.{lt-leb}
 use Rattle.cases.proofs.number.Statement.{statement}
 use Rattle.cases.proofs.number.Tie as tie
 
-returns : tie.Need-returns
+returns : tie.Need-returns-then-list-at
 returns c =
     let at-start = c.before.before in
     let h : length at-start.args.list.now < at-start.args.at + (8 * at-start.args.place + 9) = omega arith in
     simp (lt-leb _ _ h)
 
-returns_2 : tie.Need-returns-2
+returns_2 : tie.Need-returns-then-list-at-2
 returns_2 c =
     let at-start = c.before.before.before in
     let h : length at-start.args.list.now < at-start.args.at + (8 * at-start.args.place + 9) = omega arith in
     simp (lt-leb _ _ h)
 
-returns_3 : tie.Need-returns-3
+returns_3 : tie.Need-returns
 returns_3 c =
     let at-signed8 = c in
     let at-start = at-signed8.before.before.before.before in

@@ -12,7 +12,7 @@ returns c =
     let at-point-answer = c.before.before in
     let at-start = at-point-answer.before.before.before.before in
     let z = to_z-of_z w64 at-start.args.at at-start.ranges.at in
-    lent_same at-point-answer.point-answer.ensures (ap (point_number at-start.args.book.now) z)
+    lent_same at-point-answer.point_answer.ensures (ap (point_number at-start.args.book.now) z)
     (ap (point_answer at-start.args.book.now) z)
 
 pub market_time_point_spec : {M : Type 1} → statement M

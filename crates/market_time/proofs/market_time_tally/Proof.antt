@@ -13,7 +13,7 @@ returns c =
     let at-start = at-tally-answer.before.before.before.before in
     let y = to_z-of_z w64 at-start.args.start at-start.ranges.start in
     let z = to_z-of_z w64 at-start.args.end at-start.ranges.end in
-    lent_same at-tally-answer.tally-answer.ensures (ap₂ (tally_number at-start.args.book.now) y z) (ap₂ (tally_answer at-start.args.book.now) y z)
+    lent_same at-tally-answer.tally_answer.ensures (ap₂ (tally_number at-start.args.book.now) y z) (ap₂ (tally_answer at-start.args.book.now) y z)
 
 pub market_time_tally_spec : {M : Type 1} → statement M
 market_time_tally_spec = tie.close (tie.spec (λ c κs. search rules) (λ c. search rules) returns)

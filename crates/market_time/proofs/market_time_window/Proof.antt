@@ -15,7 +15,7 @@ returns c =
     let args = at-start.args in
     let y = to_z-of_z w64 args.start at-start.ranges.start in
     let z = to_z-of_z w64 args.end at-start.ranges.end in
-    lent_same at-window-answer.window-answer.ensures (ap₂ (window_number args.book.now) y z) (ap₂ (window_answer args.book.now) y z)
+    lent_same at-window-answer.window_answer.ensures (ap₂ (window_number args.book.now) y z) (ap₂ (window_answer args.book.now) y z)
 
 pub market_time_window_spec : {M : Type 1} → statement M
 market_time_window_spec = tie.close (tie.spec (λ c κs. search rules) (λ c. search rules) returns)

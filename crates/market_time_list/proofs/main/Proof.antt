@@ -5,7 +5,7 @@ use borrow.Author.Rules.{rules}
 use Rattle.market_time_list.proofs.main.Statement.{statement}
 use Rattle.market_time_list.proofs.main.Tie as tie
 
-slice_aggregate_write_all : tie.Need-slice-aggregate-write-all
+slice_aggregate_write_all : tie.Need-slice_bounds-write_all-end
 slice_aggregate_write_all c = sym (length-take-le _ _ (omega arith))
 
 pub main_spec : {M : Type 1} → statement M

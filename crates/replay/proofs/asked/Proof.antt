@@ -5,7 +5,7 @@ use borrow.Author.Rules.{rules}
 use Rattle.replay.proofs.asked.Statement.{statement}
 use Rattle.replay.proofs.asked.Tie as tie
 
-slice_aggregate_ask : tie.Need-slice-aggregate-ask
+slice_aggregate_ask : tie.Need-slice_bounds-ask-end-2
 slice_aggregate_ask c = sym (length-take-le _ _ (omega arith))
 
 pub asked_spec : {M : Type 1} → statement M

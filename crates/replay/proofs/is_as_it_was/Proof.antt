@@ -3,10 +3,10 @@ use native.Mathlib.Omega.{arith}
 use Rattle.replay.proofs.is_as_it_was.Statement.{statement}
 use Rattle.replay.proofs.is_as_it_was.Tie as tie
 
-abbrev invariant-loop : tie.invariant-loop
+abbrev invariant-loop : tie.invariant-loop-i
 invariant-loop out from i₀ i = from ≤ i
 
-abbrev decreases-loop : tie.decreases-loop
+abbrev decreases-loop : tie.decreases-loop-i
 decreases-loop out from i₀ i = 40960 - i
 
 pub is_as_it_was_spec : {M : Type 1} → statement M

@@ -5,7 +5,7 @@ use borrow.Author.Rules.{rules}
 use Rattle.replay.proofs.is_part_answered.Statement.{statement}
 use Rattle.replay.proofs.is_part_answered.Tie as tie
 
-slice_aggregate_is_answered : tie.Need-slice-aggregate-is-answered
+slice_aggregate_is_answered : tie.Need-slice_bounds-is_answered-end
 slice_aggregate_is_answered c = sym (length-take-le _ _ (omega arith))
 
 pub is_part_answered_spec : {M : Type 1} → statement M

@@ -13,77 +13,77 @@ use native.Mathlib.Omega.{arith}
 use Rattle.span_records.proofs.put_sought.Statement.{statement}
 use Rattle.span_records.proofs.put_sought.Tie as tie
 
-abbrev invariant-loop : tie.invariant-loop
+abbrev invariant-loop : tie.invariant-loop-i
 invariant-loop book first ats offsets events from to out₀ at count best₀ place₀ i₀ out best place i =
     (count ≡ length (found (zone_of first ats offsets) (map (event_at book) events) from.0 to.0))
     × Trailing (found (zone_of first ats offsets) (map (event_at book) events) from.0 to.0) out₀ at out place i best
 
-abbrev decreases-loop : tie.decreases-loop
+abbrev decreases-loop : tie.decreases-loop-i
 decreases-loop book first ats offsets events from to out₀ at count best₀ place₀ i₀ out best place i = count - i
 
 -- a need, or a place, at this invariant and measure
-abbrev At : (tie.invariant-loop → tie.decreases-loop → Type 0) → Type 0
+abbrev At : (tie.invariant-loop-i → tie.decreases-loop-i → Type 0) → Type 0
 At it = it invariant-loop decreases-loop
 
 -- the turn, from where the next event is at hand and from where it is written
-abbrev turn : At tie.After-best → At tie.In-loop
+abbrev turn : At tie.In-Some-2 → At tie.In-loop-i
 turn c = c.before.before
 
-abbrev written : At tie.After-put-event → At tie.After-best
+abbrev written : At tie.After-put_event-place → At tie.In-Some-2
 written c = c.before.before.before.before.before
 
 -- one is left to write
-more : (c : At tie.In-loop)
+more : (c : At tie.In-loop-i)
     → let args = c.before.before.before.before.before.before.before.before.args in
-    c.before.loop.i < length (found (zone_of args.offset0 args.ats.now args.offsets.now) (map (event_at args.book.now) args.events.now) args.from.0 args.to.0)
-more c = omega (arith, c.loop-test.true, c.before.loop.invariant.0)
+    c.before.loop-i.i < length (found (zone_of args.offset0 args.ats.now args.offsets.now) (map (event_at args.book.now) args.events.now) args.from.0 args.to.0)
+more c = omega (arith, c.loop-i-test.true, c.before.loop-i.invariant.0)
 
-search_events_requires : At tie.Need-search-events-requires
+search_events_requires : At tie.Need-search_events-s-requires
 search_events_requires c κs = let pre = c.before.before.before.before.before.requires in (pre.0, pre.1, pre.2)
 
-loop_holds : At tie.Need-loop-init
+loop_holds : At tie.Need-loop-i-init
 loop_holds c =
-    let begun = c.search-events.ensures.0 in
-    (begun_count 0 0 _ begun, trail_start _ _ _ c.before.before.before.before.before.before.requires.3 (ap (λ (s : Search). s.best) begun))
+    let begun = c.search_events-s.ensures.0 in
+    (begun_count 0 0 _ begun, trail_start _ _ _ c.before.before.before.before.before.before.requires.3 (ap (λ (s : Search). s.best-1) begun))
 
-returns : At tie.Need-returns
-returns c = let inv = c.before.before.before.loop.invariant in record { put = trail_none _ _ _ inv.1 c.enum_told.given.1; count = inv.0 }
+returns : At tie.Need-returns-in-None
+returns c = let inv = c.before.before.before.loop-i.invariant in record { put = trail_none _ _ _ inv.1 c.enum_told-1.given.1; count = inv.0 }
 
-put_event_requires : At tie.Need-put-event-requires
+put_event_requires : At tie.Need-put_event-place-requires
 put_event_requires c κs =
     let at-best = c.before.before.before.before in
-    trail_room _ _ _ (turn at-best).before.loop.invariant.1 (more (turn at-best)) _ _ at-best.best.given.1
+    trail_room _ _ _ (turn at-best).before.loop-i.invariant.1 (more (turn at-best)) _ _ at-best.best-1.given.1
 
-add_search_events : At tie.Need-overflow-add-search-events
+add_search_events : At tie.Need-overflow_add-index
 add_search_events c =
     let at-best = written c.before.before in
     let at-loop = (turn at-best).before in
-    let below = trail_index _ _ _ at-loop.loop.inv.1 (more (turn at-best)) _ _ at-best.best.given.1 in
-    omega (arith, below, at-loop.loop.inv.0, at-loop.before.search-events.ensures.1)
+    let below = trail_index _ _ _ at-loop.loop-i.inv.1 (more (turn at-best)) _ _ at-best.best-1.given.1 in
+    omega (arith, below, at-loop.loop-i.inv.0, at-loop.before.search_events-s.ensures.1)
 
-search_events_requires_2 : At tie.Need-search-events-requires-2
+search_events_requires_2 : At tie.Need-search_events-next-requires
 search_events_requires_2 c κs =
     let pre = (turn (written c.before.before)).before.before.before.before.before.before.before.before.pre in
     (pre.0, pre.1, pre.2)
 
-add_i : At tie.Need-overflow-add-i
-add_i c = omega (arith, (turn (written c.before.before.before)).loop-test.taken)
+add_i : At tie.Need-overflow_add-i
+add_i c = omega (arith, (turn (written c.before.before.before)).loop-i-test.taken)
 
-loop_less : At tie.Need-loop-smaller
-loop_less c = omega (arith, (turn (written c.before.before.before)).loop-test.taken)
+loop_less : At tie.Need-loop-i-smaller
+loop_less c = omega (arith, (turn (written c.before.before.before)).loop-i-test.taken)
 
-loop_again : At tie.Need-loop-preserved
+loop_again : At tie.Need-loop-i-preserved
 loop_again c =
     let at-put-event = c.before.before.before in
     let at-best = written at-put-event in
-    let inv = (turn at-best).before.loop.inv in (
+    let inv = (turn at-best).before.loop-i.inv in (
       inv.0,
-      trail_one _ _ _ inv.1 (more (turn at-best)) _ _ at-best.best.given.1 at-put-event.put-event.ensures
-          (ap (λ (s : Search). s.best) c.search-events2.ensures.0),
+      trail_one _ _ _ inv.1 (more (turn at-best)) _ _ at-best.best-1.given.1 at-put-event.put_event-place.ensures
+          (ap (λ (s : Search). s.best-1) c.search_events-next.ensures.0),
     )
 
-returns_2 : At tie.Need-returns-2
-returns_2 c = let inv = c.before.loop.invariant in record { put = trail_end _ _ _ inv.1 (omega (arith, c.loop-test.false, inv.0)); count = inv.0 }
+returns_2 : At tie.Need-returns
+returns_2 c = let inv = c.before.loop-i.invariant in record { put = trail_end _ _ _ inv.1 (omega (arith, c.loop-i-test.false, inv.0)); count = inv.0 }
 
 pub put_sought_spec : {M : Type 1} → statement M
 put_sought_spec =
@@ -94,7 +94,7 @@ put_sought_spec =
     search_events_requires
     loop_holds
     (λ c. search rules)
-    (λ c. c.before.before.before.loop.invariant.1.kept)
+    (λ c. c.before.before.before.loop-i.invariant.1.kept)
     returns
     (λ c. search rules)
     put_event_requires
@@ -103,5 +103,5 @@ put_sought_spec =
     add_i
     loop_less
     loop_again
-    (λ c. c.before.loop.invariant.1.kept)
+    (λ c. c.before.loop-i.invariant.1.kept)
     returns_2)

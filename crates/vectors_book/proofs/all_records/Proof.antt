@@ -5,10 +5,10 @@ use native.Mathlib.Omega.{arith}
 use Rattle.vectors_book.proofs.all_records.Statement.{statement}
 use Rattle.vectors_book.proofs.all_records.Tie as tie
 
-abbrev invariant-loop : tie.invariant-loop
+abbrev invariant-loop : tie.invariant-loop-at
 invariant-loop list counts₀ at₀ counts at = (length counts ≡ length counts₀)
 
-abbrev decreases-loop : tie.decreases-loop
+abbrev decreases-loop : tie.decreases-loop-at
 decreases-loop list counts₀ at₀ counts at = length list - at
 
 pub all_records_spec : {M : Type 1} → statement M

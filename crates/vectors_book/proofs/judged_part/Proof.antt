@@ -5,7 +5,7 @@ use borrow.Author.Rules.{rules}
 use Rattle.vectors_book.proofs.judged_part.Statement.{statement}
 use Rattle.vectors_book.proofs.judged_part.Tie as tie
 
-slice_aggregate_judged : tie.Need-slice-aggregate-judged
+slice_aggregate_judged : tie.Need-slice_bounds-judged-end
 slice_aggregate_judged c = sym (length-take-le _ _ (omega arith))
 
 pub judged_part_spec : {M : Type 1} → statement M

@@ -2,10 +2,10 @@ use Rattle.std.proofs.Common.{◌≡◌, ◌-◌, ◌≤◌, length, arith}
 use Rattle.vectors_calendar.proofs.month.Statement.{statement}
 use Rattle.vectors_calendar.proofs.month.Tie as tie
 
-abbrev invariant-loop : tie.invariant-loop
+abbrev invariant-loop : tie.invariant-loop-k
 invariant-loop year month first days weekday counts₀ k₀ counts k = (k ≤ days) × (length counts ≡ length counts₀)
 
-abbrev decreases-loop : tie.decreases-loop
+abbrev decreases-loop : tie.decreases-loop-k
 decreases-loop year month first days weekday counts₀ k₀ counts k = days - k
 
 pub month_spec : {M : Type 1} → statement M

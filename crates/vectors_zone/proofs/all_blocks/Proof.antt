@@ -5,10 +5,10 @@ use native.Mathlib.Omega.{arith}
 use Rattle.vectors_zone.proofs.all_blocks.Statement.{statement}
 use Rattle.vectors_zone.proofs.all_blocks.Tie as tie
 
-abbrev invariant-loop : tie.invariant-loop
+abbrev invariant-loop : tie.invariant-loop-turns
 invariant-loop fd counts₀ turns₀ counts turns = (turns ≤ 10000) × (length counts ≡ length counts₀)
 
-abbrev decreases-loop : tie.decreases-loop
+abbrev decreases-loop : tie.decreases-loop-turns
 decreases-loop fd counts₀ turns₀ counts turns = turns
 
 pub all_blocks_spec : {M : Type 1} → statement M

@@ -5,13 +5,13 @@ use native.Mathlib.Omega.{arith}
 use Rattle.vectors_zone.proofs.cases.Statement.{statement}
 use Rattle.vectors_zone.proofs.cases.Tie as tie
 
-abbrev invariant-loop : tie.invariant-loop
+abbrev invariant-loop : tie.invariant-loop-at
 invariant-loop list from first ats offsets counts₀ at₀ counts at = (from ≤ at) × (length counts ≡ length counts₀)
 
-abbrev decreases-loop : tie.decreases-loop
+abbrev decreases-loop : tie.decreases-loop-at
 decreases-loop list from first ats offsets counts₀ at₀ counts at = length list - at
 
-is_so_requires : tie.Need-is-so-requires invariant-loop decreases-loop
+is_so_requires : tie.Need-is_so-requires invariant-loop decreases-loop
 is_so_requires c κs =
     let at-start = c.before.before.before.before.before.before.before.before.before in
     at-start.requires

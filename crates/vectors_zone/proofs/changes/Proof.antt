@@ -5,13 +5,13 @@ use native.Mathlib.Omega.{arith}
 use Rattle.vectors_zone.proofs.changes.Statement.{statement}
 use Rattle.vectors_zone.proofs.changes.Tie as tie
 
-abbrev invariant-loop : tie.invariant-loop
+abbrev invariant-loop : tie.invariant-loop-next
 invariant-loop list from ats₀ offsets₀ count₀ next₀ ats offsets count next = (count ≤ length ats) × (count ≤ length offsets) × (from ≤ next) × (length ats ≡ length ats₀) × (length offsets ≡ length offsets₀)
 
-abbrev decreases-loop : tie.decreases-loop
+abbrev decreases-loop : tie.decreases-loop-next
 decreases-loop list from ats₀ offsets₀ count₀ next₀ ats offsets count next = length list - next
 
-loop_again : tie.Need-loop-preserved invariant-loop decreases-loop
+loop_again : tie.Need-loop-next-preserved invariant-loop decreases-loop
 loop_again c = simp length-set (omega arith)
 
 pub changes_spec : {M : Type 1} → statement M

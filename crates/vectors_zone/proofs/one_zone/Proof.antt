@@ -6,17 +6,17 @@ use borrow.Author.Rules.{rules}
 use Rattle.vectors_zone.proofs.one_zone.Statement.{statement}
 use Rattle.vectors_zone.proofs.one_zone.Tie as tie
 
-slice_aggregate_held_ats : tie.Need-slice-aggregate-held-ats
+slice_aggregate_held_ats : tie.Need-slice_bounds-held_ats-end
 slice_aggregate_held_ats c = sym (length-take-le _ _ (omega arith))
 
-slice_aggregate_held_offsets : tie.Need-slice-aggregate-held-offsets
+slice_aggregate_held_offsets : tie.Need-slice_bounds-held_offsets-end
 slice_aggregate_held_offsets c = sym (length-take-le _ _ (omega arith))
 
 cases_requires : tie.Need-cases-requires
 cases_requires c κs =
     let at-if1 = c.before.before.before.before.before in
     let at-is-valid = at-if1.before in
-    valid_yes _ _ _ (sym at-is-valid.is-valid.ensures ∙ at-if1.if1.true)
+    valid_yes _ _ _ (sym at-is-valid.is_valid.ensures ∙ at-if1.if-is_valid.true)
 
 pub one_zone_spec : {M : Type 1} → statement M
 one_zone_spec =

@@ -14,8 +14,8 @@ returns c =
     let at-put-boundary = at-put-uncertainty.before.before.before.before in
     let at-put-instant = at-put-boundary.before.before.before.before in
     let at-start = at-put-instant.before.before.before.before in
-    let back = after at-put-boundary.put-boundary.ensures (after at-put-uncertainty.put-uncertainty.ensures at-put4.put4.ensures refl) refl in
-    amended at-start.args.p at-start.requires at-put-instant.put-instant.ensures back
+    let back = after at-put-boundary.put_boundary-a.ensures (after at-put-uncertainty.put_uncertainty-b.ensures at-put4.put4.ensures refl) refl in
+    amended at-start.args.p at-start.requires at-put-instant.put_instant.ensures back
 
 pub amend_phase_spec : {M : Type 1} → statement M
 amend_phase_spec =

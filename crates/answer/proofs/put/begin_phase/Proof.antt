@@ -15,8 +15,8 @@ returns c =
     let at-put-span = at-put-rule.before.before.before.before in
     let at-put-head = at-put-span.before.before.before.before in
     let at-start = at-put-head.before.before.before.before in
-    let body = after at-put-span.put-span.ensures (after at-put-rule.put-rule.ensures at-put-boundary.put-boundary.ensures refl) refl in
-    rw (front_bytes (phase_of at-start.args.p)) (after at-put-head.put-head.ensures body refl)
+    let body = after at-put-span.put_span-b.ensures (after at-put-rule.put_rule-c.ensures at-put-boundary.put_boundary.ensures refl) refl in
+    rw (front_bytes (phase_of at-start.args.p)) (after at-put-head.put_head-a.ensures body refl)
 
 pub begin_phase_spec : {M : Type 1} → statement M
 begin_phase_spec =

@@ -8,7 +8,7 @@ returns : tie.Need-returns
 returns c =
     let at-put-uncertainty = c.before.before in
     let at-put-instant = at-put-uncertainty.before.before.before.before in
-    after at-put-instant.put-instant.ensures at-put-uncertainty.put-uncertainty.ensures refl
+    after at-put-instant.put_instant-a.ensures at-put-uncertainty.put_uncertainty.ensures refl
 
 pub put_boundary_spec : {M : Type 1} → statement M
 put_boundary_spec =

@@ -5,13 +5,13 @@ use borrow.Author.Rules.{rules}
 use Rattle.answer.proofs.put.put_day.Statement.{statement}
 use Rattle.answer.proofs.put.put_day.Tie as tie
 
-put_head_requires : tie.Need-put-head-requires
+put_head_requires : tie.Need-put_head-a-requires
 put_head_requires c κs = search rules
 
-put_row_requires : tie.Need-put-row-requires
+put_row_requires : tie.Need-put_row-requires
 put_row_requires c κs = search rules
 
-same_length : tie.Need-same-length
+same_length : tie.Need-shape_of-out
 same_length c = search rules
 
 returns : tie.Need-returns
@@ -20,7 +20,7 @@ returns c =
     let at-put-head = at-put-row.before.before.before.before in
     let at-start = at-put-head.before.before.before.before in
     rw (day_bytes (totals_of at-start.args.start.0 at-start.args.end.0 at-start.args.totals.now))
-    (after at-put-head.put-head.ensures at-put-row.put-row.ensures refl)
+    (after at-put-head.put_head-a.ensures at-put-row.put_row.ensures refl)
 
 pub put_day_spec : {M : Type 1} → statement M
 put_day_spec = tie.close (tie.spec put_head_requires put_row_requires same_length returns)

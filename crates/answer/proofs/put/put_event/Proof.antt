@@ -15,8 +15,8 @@ returns c =
     let at-put-head = at-put2.before.before.before.before in
     let at-start = at-put-head.before.before.before in
     let said = event_bytes (event_of at-start.args.code at-start.args.b at-start.args.evidence) in
-    let last = after at-put-boundary.put-boundary.ensures at-put22.put22.ensures refl in
-    rw said (after at-put-head.put-head.ensures (after at-put2.put2.ensures last refl) refl)
+    let last = after at-put-boundary.put_boundary-e.ensures at-put22.put2.ensures refl in
+    rw said (after at-put-head.put_head-c.ensures (after at-put2.put2-d.ensures last refl) refl)
 
 pub put_event_spec : {M : Type 1} → statement M
 put_event_spec =

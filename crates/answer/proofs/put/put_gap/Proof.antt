@@ -12,8 +12,8 @@ returns c =
     let at-put-head = at-put-span.before.before.before.before in
     let at-start = at-put-head.before.before.before in
     let said = gap_bytes (gap_of at-start.args.start.0 at-start.args.end.0 at-start.args.c) in
-    let body = after at-put-span.put-span.ensures at-put-cover.put-cover.ensures refl in
-    rw said (after at-put-head.put-head.ensures body refl)
+    let body = after at-put-span.put_span-b.ensures at-put-cover.put_cover.ensures refl in
+    rw said (after at-put-head.put_head-a.ensures body refl)
 
 pub put_gap_spec : {M : Type 1} → statement M
 put_gap_spec =

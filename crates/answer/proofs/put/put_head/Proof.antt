@@ -8,7 +8,7 @@ returns : tie.Need-returns
 returns c =
     let at-put22 = c.before.before in
     let at-put2 = at-put22.before.before.before.before in
-    after at-put2.put2.ensures at-put22.put22.ensures refl
+    after at-put2.put2-a.ensures at-put22.put2.ensures refl
 
 pub put_head_spec : {M : Type 1} → statement M
 put_head_spec = tie.close (tie.spec (λ c κs. search rules) (λ c κs. search rules) (λ c. search rules) returns)

@@ -12,8 +12,8 @@ returns c =
     let at-put-head = at-put-instant.before.before.before.before in
     let at-start = at-put-head.before.before.before in
     let said = missing_bytes (missing_of at-start.args.t.0 at-start.args.c) in
-    let body = after at-put-instant.put-instant.ensures at-put-cover.put-cover.ensures refl in
-    rw said (after at-put-head.put-head.ensures body refl)
+    let body = after at-put-instant.put_instant-b.ensures at-put-cover.put_cover.ensures refl in
+    rw said (after at-put-head.put_head-a.ensures body refl)
 
 pub put_missing_spec : {M : Type 1} → statement M
 put_missing_spec =

@@ -11,8 +11,8 @@ returns c =
     let at-put2 = at-put22.before.before.before.before in
     let at-put12 = at-put2.before.before.before.before in
     let at-put1 = at-put12.before.before.before.before in
-    let numbers = after at-put2.put2.ensures (after at-put22.put22.ensures at-put23.put23.ensures refl) refl in
-    after at-put1.put1.ensures (after at-put12.put12.ensures numbers refl) refl
+    let numbers = after at-put2.put2-c.ensures (after at-put22.put2-d.ensures at-put23.put2.ensures refl) refl in
+    after at-put1.put1-a.ensures (after at-put12.put1-b.ensures numbers refl) refl
 
 pub put_rule_spec : {M : Type 1} → statement M
 put_rule_spec =

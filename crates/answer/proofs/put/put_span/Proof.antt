@@ -8,7 +8,7 @@ returns : tie.Need-returns
 returns c =
     let at-put-instant2 = c.before.before in
     let at-put-instant = at-put-instant2.before.before.before.before in
-    after at-put-instant.put-instant.ensures at-put-instant2.put-instant2.ensures refl
+    after at-put-instant.put_instant-a.ensures at-put-instant2.put_instant.ensures refl
 
 pub put_span_spec : {M : Type 1} → statement M
 put_span_spec =

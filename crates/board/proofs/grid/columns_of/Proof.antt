@@ -7,19 +7,19 @@ use borrow.Author.Rules.{rules}
 use Rattle.board.proofs.grid.columns_of.Statement.{statement}
 use Rattle.board.proofs.grid.columns_of.Tie as tie
 
-returns : tie.Need-returns
+returns : tie.Need-returns-then-p
 returns c =
     let at_place = c.before in
     let at-start = at_place.before in
     few_columns at-start.args.columns _
-    (at_place.place.ensures ∙ ap (placed w64) (to_z-of_z w64 at-start.args.columns at-start.ranges.columns)) c.if1.true
+    (at_place.place-p.ensures ∙ ap (placed w64) (to_z-of_z w64 at-start.args.columns at-start.ranges.columns)) c.if-p.true
 
-returns_2 : tie.Need-returns-2
+returns_2 : tie.Need-returns
 returns_2 c =
     let at_place = c.before in
     let at-start = at_place.before in
     enough_columns at-start.args.columns _
-    (at_place.place.ensures ∙ ap (placed w64) (to_z-of_z w64 at-start.args.columns at-start.ranges.columns)) c.if1.false
+    (at_place.place-p.ensures ∙ ap (placed w64) (to_z-of_z w64 at-start.args.columns at-start.ranges.columns)) c.if-p.false
 
 pub columns_of_spec : {M : Type 1} → statement M
 columns_of_spec = tie.close (tie.spec (λ c κs. tt) (λ c. search rules) returns (λ c. search rules) returns_2)

@@ -6,54 +6,54 @@ use native.Mathlib.Omega.{arith}
 use Rattle.board.proofs.grid.share.Statement.{statement}
 use Rattle.board.proofs.grid.share.Tie as tie
 
-abbrev invariant-loop : tie.invariant-loop
+abbrev invariant-loop : tie.invariant-loop-left
 invariant-loop gone columns span sum₀ term₀ left₀ sum term left = Sharing gone columns span sum term left
 
-abbrev decreases-loop : tie.decreases-loop
+abbrev decreases-loop : tie.decreases-loop-left
 decreases-loop gone columns span sum₀ term₀ left₀ sum term left = left
 
 -- a need, or a place, at this invariant and measure
-abbrev At : (tie.invariant-loop → tie.decreases-loop → Type 0) → Type 0
+abbrev At : (tie.invariant-loop-left → tie.decreases-loop-left → Type 0) → Type 0
 At it = it invariant-loop decreases-loop
 
 -- the entry, from a turn of the loop
-abbrev entry : At tie.At-loop → At tie.Start
+abbrev entry : At tie.At-loop-left → At tie.Start
 entry c = c.before.before
 
 -- the term is small while something is left
-term : (c : At tie.In-loop) → Small (entry c.before).args.span c.before.loop.term
-term c = let pre = (entry c.before).pre in term_small _ _ _ pre.0 pre.1 _ _ _ c.before.loop.invariant c.loop-test.true
+term : (c : At tie.In-loop-left) → Small (entry c.before).args.span c.before.loop-left.term
+term c = let pre = (entry c.before).pre in term_small _ _ _ pre.0 pre.1 _ _ _ c.before.loop-left.invariant c.loop-left-test.true
 
-mul_result : At tie.Need-overflow-mul-result
-mul_result c = omega (arith, short_fits _ _ c.if1.true c.before.requires.1)
+mul_result : At tie.Need-overflow_mul-result
+mul_result c = omega (arith, short_fits _ _ c.if-gone-le-SHORT.true c.before.requires.1)
 
-loop_holds : At tie.Need-loop-init
+loop_holds : At tie.Need-loop-left-init
 loop_holds c = let pre = c.before.requires in share_start _ _ _ pre.0 pre.1
 
-plus_requires : At tie.Need-plus-requires
+plus_requires : At tie.Need-plus-sum-requires
 plus_requires c κs =
     let at-loop = c.before.before in
     let pre = (entry at-loop).requires in
-    (sum_small _ _ _ pre.0 pre.1 _ _ _ at-loop.loop.invariant, term c.before)
+    (sum_small _ _ _ pre.0 pre.1 _ _ _ at-loop.loop-left.invariant, term c.before)
 
-loop_again : At tie.Need-loop-preserved
+loop_again : At tie.Need-loop-left-preserved
 loop_again c =
     let at-if2 = c.before in
     let at-loop-test = at-if2.before in
     let at-loop = at-loop-test.before in
     let pre = (entry at-loop).requires in
-    let left = at-loop-test.loop-test.true in
-    let twice = c.plus2.ensures in
+    let left = at-loop-test.loop-left-test.true in
+    let twice = c.plus-term.ensures in
     ⊎_elim
-    (λ w. rw w.2 (share_odd _ _ _ pre.0 pre.1 _ _ _ at-loop.loop.invariant left _ twice w.0.taken _ w.1.ensures))
-    (λ w. rw w.1 (share_even _ _ _ pre.0 pre.1 _ _ _ at-loop.loop.invariant left _ twice (omega (arith, w.0.left))))
-    at-if2.if2.branch
+    (λ w. rw w.2 (share_odd _ _ _ pre.0 pre.1 _ _ _ at-loop.loop-left.invariant left _ twice w.0.taken _ w.1.ensures))
+    (λ w. rw w.1 (share_even _ _ _ pre.0 pre.1 _ _ _ at-loop.loop-left.invariant left _ twice (omega (arith, w.0.left))))
+    at-if2.if-left-eq1.branch
 
-returns_2 : At tie.Need-returns-2
+returns_2 : At tie.Need-returns
 returns_2 c =
     let at-loop = c.before in
     let pre = (entry at-loop).requires in
-    share_end _ _ _ pre.0 pre.1 _ _ _ at-loop.loop.invariant (omega (arith, c.loop-test.false))
+    share_end _ _ _ pre.0 pre.1 _ _ _ at-loop.loop-left.invariant (omega (arith, c.loop-left-test.false))
 
 pub share_spec : {M : Type 1} → statement M
 share_spec =
@@ -67,6 +67,6 @@ share_spec =
     loop_holds
     plus_requires
     (λ c κs. (term c.before, term c.before))
-    (λ c. omega (arith, c.before.before.loop-test.true))
+    (λ c. omega (arith, c.before.before.loop-left-test.true))
     loop_again
     returns_2)

@@ -12,7 +12,7 @@ returns c =
     let at-outside4 = c in
     let at-outside82 = at-outside4.before in
     let at-outside8 = at-outside82.before in
-    ap₂ ◌||◌ (ap₂ ◌||◌ at-outside8.outside8.ensures at-outside82.outside82.ensures) at-outside4.outside4.ensures
+    ap₂ ◌||◌ (ap₂ ◌||◌ at-outside8.outside8.ensures at-outside82.outside8-2.ensures) at-outside4.outside4.ensures
 
 pub bad_coverage_spec : {M : Type 1} → statement M
 bad_coverage_spec =

@@ -10,7 +10,7 @@ unfolding Signs.meant
 returns c =
     let at-outside42 = c in
     let at-outside4 = at-outside42.before in
-    ap₂ ◌||◌ at-outside4.outside4.ensures at-outside42.outside42.ensures
+    ap₂ ◌||◌ at-outside4.outside4.ensures at-outside42.outside4-2.ensures
 
 pub bad_days_spec : {M : Type 1} → statement M
 bad_days_spec =

@@ -6,68 +6,68 @@ use native.Mathlib.Omega.{arith}
 use Rattle.book.proofs.judge.bad_fields.Statement.{statement}
 use Rattle.book.proofs.judge.bad_fields.Tie as tie
 
-bad_coverage_requires : tie.Need-bad-coverage-requires
+bad_coverage_requires : tie.Need-bad_coverage-requires
 bad_coverage_requires c κs =
     let at-match = c in
     let at-start = at-match.before.before in
-    room1 at-start.args.book.now at-start.args.at at-start.args.kind at-start.requires.0 at-start.requires.1 at-match.match.keys1
+    room1 at-start.args.book.now at-start.args.at at-start.args.kind at-start.requires.0 at-start.requires.1 at-match.in-1.keys1
 
-bad_transition_requires : tie.Need-bad-transition-requires
+bad_transition_requires : tie.Need-bad_transition-requires
 bad_transition_requires c κs =
     let at-match = c in
     let at-start = at-match.before.before in
-    room2 at-start.args.book.now at-start.args.at at-start.args.kind at-start.requires.0 at-start.requires.1 at-match.match.keys2
+    room2 at-start.args.book.now at-start.args.at at-start.args.kind at-start.requires.0 at-start.requires.1 at-match.in-2.keys2
 
-bad_rule_requires : tie.Need-bad-rule-requires
+bad_rule_requires : tie.Need-bad_rule-requires
 bad_rule_requires c κs =
     let at-match = c in
     let at-start = at-match.before.before in
     let r = room3 at-start.args.book.now at-start.args.at at-start.args.kind at-start.requires.0 at-start.requires.1
-    at-match.match.keys3 in
+    at-match.in-3.keys3 in
     omega arith
 
-bad_event_requires : tie.Need-bad-event-requires
+bad_event_requires : tie.Need-bad_event-requires
 bad_event_requires c κs =
     let at-match = c in
     let at-start = at-match.before.before in
     let args = at-start.args in
     let r = room4 args.book.now args.at args.kind at-start.requires.0 at-start.requires.1 (the_fourth args.book.now args.at
-    args.kind at-start.requires.0 at-start.requires.1 at-match.match.rest.0.0.1 at-match.match.rest.0.1 at-match.match.rest.1) in
+    args.kind at-start.requires.0 at-start.requires.1 at-match.in_default.rest.0.0.1 at-match.in_default.rest.0.1 at-match.in_default.rest.1) in
     omega arith
 
-returns : tie.Need-returns
+returns : tie.Need-returns-in-1
 returns c =
     let at-bad-coverage = c in
     let at-match = at-bad-coverage.before in
     let at-start = at-match.before.before in
-    at-bad-coverage.bad-coverage.ensures ∙ sym (ap (bad_fields base)
-    (is_one at-start.args.book.now at-start.args.at at-start.args.kind at-start.requires.0 at-start.requires.1 at-match.match.keys1))
+    at-bad-coverage.bad_coverage.ensures ∙ sym (ap (bad_fields base)
+    (is_one at-start.args.book.now at-start.args.at at-start.args.kind at-start.requires.0 at-start.requires.1 at-match.in-1.keys1))
 
-returns_2 : tie.Need-returns-2
+returns_2 : tie.Need-returns-in-2
 returns_2 c =
     let at-bad-transition = c in
     let at-match = at-bad-transition.before in
     let at-start = at-match.before.before in
-    at-bad-transition.bad-transition.ensures ∙ sym (ap (bad_fields base)
-    (is_two at-start.args.book.now at-start.args.at at-start.args.kind at-start.requires.0 at-start.requires.1 at-match.match.keys2))
+    at-bad-transition.bad_transition.ensures ∙ sym (ap (bad_fields base)
+    (is_two at-start.args.book.now at-start.args.at at-start.args.kind at-start.requires.0 at-start.requires.1 at-match.in-2.keys2))
 
-returns_3 : tie.Need-returns-3
+returns_3 : tie.Need-returns-in-3
 returns_3 c =
     let at-bad-rule = c in
     let at-match = at-bad-rule.before in
     let at-start = at-match.before.before in
-    at-bad-rule.bad-rule.ensures ∙ sym (ap (bad_fields base)
-    (is_three at-start.args.book.now at-start.args.at at-start.args.kind at-start.requires.0 at-start.requires.1 at-match.match.keys3))
+    at-bad-rule.bad_rule.ensures ∙ sym (ap (bad_fields base)
+    (is_three at-start.args.book.now at-start.args.at at-start.args.kind at-start.requires.0 at-start.requires.1 at-match.in-3.keys3))
 
-returns_4 : tie.Need-returns-4
+returns_4 : tie.Need-returns-in_default
 returns_4 c =
     let at-bad-event = c in
     let at-match = at-bad-event.before in
     let at-start = at-match.before.before in
     let args = at-start.args in
-    at-bad-event.bad-event.ensures ∙ sym (ap (bad_fields base) (is_four args.book.now args.at args.kind at-start.requires.0
-    at-start.requires.1 (the_fourth args.book.now args.at args.kind at-start.requires.0 at-start.requires.1 at-match.match.rest.0.0.1
-    at-match.match.rest.0.1 at-match.match.rest.1)))
+    at-bad-event.bad_event.ensures ∙ sym (ap (bad_fields base) (is_four args.book.now args.at args.kind at-start.requires.0
+    at-start.requires.1 (the_fourth args.book.now args.at args.kind at-start.requires.0 at-start.requires.1 at-match.in_default.rest.0.0.1
+    at-match.in_default.rest.0.1 at-match.in_default.rest.1)))
 
 pub bad_fields_spec : {M : Type 1} → statement M
 bad_fields_spec =

@@ -4,12 +4,12 @@ use mathlib.Core.Path.{sym}
 use Rattle.book.proofs.judge.byte_or_0.Statement.{statement}
 use Rattle.book.proofs.judge.byte_or_0.Tie as tie
 
-returns : tie.Need-returns
+returns : tie.Need-returns-then-p-book
 returns c =
     let at-get1 = c in
     at-get1.get1.ensures
 
-returns_2 : tie.Need-returns-2
+returns_2 : tie.Need-returns-else-p-book
 returns_2 c = sym (field_past _ _ (omega arith))
 
 pub byte_or_0_spec : {M : Type 1} → statement M

@@ -4,32 +4,32 @@ use borrow.Author.Rules.{rules}
 use Rattle.classes.proofs.classing.class_of.Statement.{statement}
 use Rattle.classes.proofs.classing.class_of.Tie as tie
 
-enum_known_shows : tie.Need-enum-known-shows
+enum_known_shows : tie.Need-enum_known-shows
 enum_known_shows c = search rules
 
-is_trading_requires : tie.Need-is-trading-requires
+is_trading_requires : tie.Need-is_trading-requires
 is_trading_requires c κs = tt
 
-returns : tie.Need-returns
+returns : tie.Need-returns-then-is_trading
 returns c =
     let at-if1 = c in
     let at-is-trading = at-if1.before in
     let at-shows = at-is-trading.before.before in
     let at-start = at-shows.before.before in
-    class_phase at-start.args.shows _ _ (at-shows.shows.given.1) _ (sym at-if1.if1.true ∙ at-is-trading.is-trading.ensures)
+    class_phase at-start.args.shows-1 _ _ (at-shows.shows-1.given.1) _ (sym at-if1.if-is_trading.true ∙ at-is-trading.is_trading.ensures)
 
-enum_told : tie.Need-enum-told
+enum_told : tie.Need-enum_told-1
 enum_told c = search rules
 
-returns_2 : tie.Need-returns-2
+returns_2 : tie.Need-returns-else-is_trading
 returns_2 c =
     let at-if1 = c in
     let at-is-trading = at-if1.before in
     let at-shows = at-is-trading.before.before in
     let at-start = at-shows.before.before in
-    class_phase at-start.args.shows _ _ (at-shows.shows.given.1) _ (sym at-if1.if1.false ∙ at-is-trading.is-trading.ensures)
+    class_phase at-start.args.shows-1 _ _ (at-shows.shows-1.given.1) _ (sym at-if1.if-is_trading.false ∙ at-is-trading.is_trading.ensures)
 
-returns_3 : tie.Need-returns-3
+returns_3 : tie.Need-returns-in-Unknown
 returns_3 c = search rules
 
 pub class_of_spec : {M : Type 1} → statement M

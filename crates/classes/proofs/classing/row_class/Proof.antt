@@ -9,89 +9,89 @@ use borrow.Author.Rules.{rules}
 use Rattle.classes.proofs.classing.row_class.Statement.{statement}
 use Rattle.classes.proofs.classing.row_class.Tie as tie
 
-abbrev invariant-loop : tie.invariant-loop
+abbrev invariant-loop : tie.invariant-loop-behind
 invariant-loop rows start marks t at₀ least₀ waiting₀ shown₀ at least waiting shown = Along marks rows start t at least waiting shown
 
-abbrev decreases-loop : tie.decreases-loop
+abbrev decreases-loop : tie.decreases-loop-behind
 decreases-loop rows start marks t at₀ least₀ waiting₀ shown₀ at least waiting shown = length rows - at
 
 -- a need, or a place, at this invariant and measure
-abbrev At : (tie.invariant-loop → tie.decreases-loop → Type 0) → Type 0
+abbrev At : (tie.invariant-loop-behind → tie.decreases-loop-behind → Type 0) → Type 0
 At it = it invariant-loop decreases-loop
 
 -- what follows from what stands at the place
-tells : (c : At tie.After-stands-at) {x : Stands} → c.stands_at.result ≡ x
+tells : (c : At tie.After-stands_at) {x : Stands} → c.stands_at.result ≡ x
     → let args = c.before.before.before.args in
-    let now = c.before.loop in
+    let now = c.before.loop-behind in
     Tells args.marks args.rows.now now.at now.least now.waiting x
-tells c e = told _ _ _ _ _ c.before.loop.invariant.going.inside (sym c.stands_at.ensures ∙ e)
+tells c e = told _ _ _ _ _ c.before.loop-behind.invariant.going.inside (sym c.stands_at.ensures ∙ e)
 
 -- the rows are no longer than a place can count
-short : (c : At tie.At-loop) → length c.before.before.args.rows.now < 2 ^ 64
-short c = omega (arith, c.before.shared-slice-known.given (length c.before.before.args.rows.now))
+short : (c : At tie.At-loop-behind) → length c.before.before.args.rows.now < 2 ^ 64
+short c = omega (arith, c.before.shared_slice_known-1.given (length c.before.before.args.rows.now))
 
-loop_holds : At tie.Need-loop-init
+loop_holds : At tie.Need-loop-behind-init
 loop_holds c = along_start _ _ _ _ c.before.requires
 
-returns : At tie.Need-returns
+returns : At tie.Need-returns-in-Bad
 returns c =
     let at-stands-at = c.before.before in
-    at-stands-at.before.loop.invariant.going.same ∙ tells at-stands-at c.enum_told.given.1
+    at-stands-at.before.loop-behind.invariant.going.same ∙ tells at-stands-at c.enum_told-1.given.1
 
-returns_2 : At tie.Need-returns-2
+returns_2 : At tie.Need-returns-in-End
 returns_2 c =
     let at-stands-at = c.before.before in
-    along_end _ _ _ _ at-stands-at.before.loop.invariant (tells at-stands-at c.enum-told2.given.1)
+    along_end _ _ _ _ at-stands-at.before.loop-behind.invariant (tells at-stands-at c.enum_told-in-End-1.given.1)
 
-add_behind : At tie.Need-overflow-add-behind
+add_behind : At tie.Need-overflow_add-behind
 add_behind c =
     let at-stands-at = c.before.before in
-    omega (arith, (tells at-stands-at c.enum-told3.given.1).inside, short at-stands-at.before)
+    omega (arith, (tells at-stands-at c.enum_told-in-Mark-1.given.1).inside, short at-stands-at.before)
 
-returns_3 : At tie.Need-returns-3
+returns_3 : At tie.Need-returns-in-Mark
 returns_3 c =
     let at-stands-at = c.before.before in
-    along_mark _ _ _ _ at-stands-at.before.loop.invariant (tells at-stands-at c.enum-told3.given.1)
+    along_mark _ _ _ _ at-stands-at.before.loop-behind.invariant (tells at-stands-at c.enum_told-in-Mark-1.given.1)
 
-read_segment_requires : At tie.Need-read-segment-requires
-read_segment_requires c κs = (tells c.before.before c.enum-told4.given.1).segment
+read_segment_requires : At tie.Need-read_segment-g-requires
+read_segment_requires c κs = (tells c.before.before c.enum_told-in-Segment-1.given.1).segment
 
-loop_less : At tie.Need-loop-smaller
+loop_less : At tie.Need-loop-behind-smaller-in-Segment
 loop_less c =
     let at-read-segment = c.before.before.before in
     let at-enum-told4 = at-read-segment.before in
     let at-stands-at = at-enum-told4.before.before in
-    segment_after at-stands-at.before.loop.invariant.going (tells at-stands-at at-enum-told4.enum-told4.given.1) at-read-segment.read-segment.ensures
+    segment_after at-stands-at.before.loop-behind.invariant.going (tells at-stands-at at-enum-told4.enum_told-in-Segment-1.given.1) at-read-segment.read_segment-g.ensures
 
-loop_again : At tie.Need-loop-preserved
+loop_again : At tie.Need-loop-behind-preserved-in-Segment
 loop_again c =
     let at_first = c.before in
     let at-class-in = at_first.before in
     let at-read-segment = at-class-in.before in
     let at-enum-told4 = at-read-segment.before in
     let at-stands-at = at-enum-told4.before.before in
-    along_segment _ _ _ _ at-stands-at.before.loop.invariant (tells at-stands-at at-enum-told4.enum-told4.given.1)
-    at-read-segment.read-segment.ensures at-class-in.class-in.ensures at_first.first.ensures
+    along_segment _ _ _ _ at-stands-at.before.loop-behind.invariant (tells at-stands-at at-enum-told4.enum_told-in-Segment-1.given.1)
+    at-read-segment.read_segment-g.ensures at-class-in.class_in.ensures at_first.first-shown.ensures
 
-read_event_requires : At tie.Need-read-event-requires
-read_event_requires c κs = (tells c.before.before c.enum-told5.given.1).inside
+read_event_requires : At tie.Need-read_event-e-requires
+read_event_requires c κs = (tells c.before.before c.enum_told-in-Event-1.given.1).inside
 
 -- what follows from the event
-happens : (c : At tie.After-read-event)
+happens : (c : At tie.After-read_event-e)
     → let at-stands-at = c.before.before.before in
     let args = at-stands-at.before.before.before.args in
-    let now = at-stands-at.before.loop in
+    let now = at-stands-at.before.loop-behind in
     Happens args.marks args.rows.now now.at now.least now.waiting
-happens c = tells c.before.before.before c.before.enum-told5.given.1
+happens c = tells c.before.before.before c.before.enum_told-in-Event-1.given.1
 
-sub_waiting : At tie.Need-overflow-sub-waiting
+sub_waiting : At tie.Need-overflow_sub-waiting
 sub_waiting c = omega (arith, (happens c).some)
 
-loop_less_2 : At tie.Need-loop-smaller-2
-loop_less_2 c = omega (arith, (happens c).inside, c.read-event.ensures.2)
+loop_less_2 : At tie.Need-loop-behind-smaller
+loop_less_2 c = omega (arith, (happens c).inside, c.read_event-e.ensures.2)
 
-loop_again_2 : At tie.Need-loop-preserved-2
-loop_again_2 c = along_event _ _ _ _ c.before.before.before.before.loop.invariant (happens c) c.read-event.ensures.2
+loop_again_2 : At tie.Need-loop-behind-preserved
+loop_again_2 c = along_event _ _ _ _ c.before.before.before.before.loop-behind.invariant (happens c) c.read_event-e.ensures.2
 
 pub row_class_spec : {M : Type 1} → statement M
 row_class_spec =

@@ -4,49 +4,49 @@ use borrow.Author.Rules.{rules}
 use Rattle.classes.proofs.counting.add.Statement.{statement}
 use Rattle.classes.proofs.counting.add.Tie as tie
 
-add_more : tie.Need-overflow-add-more
+add_more : tie.Need-overflow_add-more
 add_more c = search rules
 
-enum_told : tie.Need-enum-told
+enum_told : tie.Need-enum_told-1
 enum_told c = search rules
 
-add_more_2 : tie.Need-overflow-add-more-2
+add_more_2 : tie.Need-overflow_add-more-in-Trading
 add_more_2 c = search rules
 
-enum_told_2 : tie.Need-enum-told-2
+enum_told_2 : tie.Need-enum_told-in-NotTrading
 enum_told_2 c = search rules
 
-add_more_3 : tie.Need-overflow-add-more-3
+add_more_3 : tie.Need-overflow_add-more-in-NotTrading
 add_more_3 c = search rules
 
-enum_told_3 : tie.Need-enum-told-3
+enum_told_3 : tie.Need-enum_told-in-NotKnown
 enum_told_3 c = search rules
 
-add_more_4 : tie.Need-overflow-add-more-4
+add_more_4 : tie.Need-overflow_add-more-in-NotKnown
 add_more_4 c = search rules
 
-enum_told_4 : tie.Need-enum-told-4
+enum_told_4 : tie.Need-enum_told-in-NotShown
 enum_told_4 c = search rules
 
-returns : tie.Need-returns
+returns : tie.Need-returns-in-Trading
 returns c =
     let at-enum-told = c.before in
-    rw (at-enum-told.enum_told.given.1) (record { venues = refl; trading = refl; not_trading = omega arith; not_known = omega arith })
+    rw (at-enum-told.enum_told-1.given.1) (record { venues = refl; trading = refl; not_trading = omega arith; not_known = omega arith })
 
-returns_2 : tie.Need-returns-2
+returns_2 : tie.Need-returns-in-NotTrading
 returns_2 c =
     let at-enum-told2 = c.before in
-    rw (at-enum-told2.enum-told2.given.1) (record { venues = refl; trading = omega arith; not_trading = refl; not_known = omega arith })
+    rw (at-enum-told2.enum_told-in-NotTrading-1.given.1) (record { venues = refl; trading = omega arith; not_trading = refl; not_known = omega arith })
 
-returns_3 : tie.Need-returns-3
+returns_3 : tie.Need-returns-in-NotKnown
 returns_3 c =
     let at-enum-told3 = c.before in
-    rw (at-enum-told3.enum-told3.given.1) (record { venues = refl; trading = omega arith; not_trading = omega arith; not_known = refl })
+    rw (at-enum-told3.enum_told-in-NotKnown-1.given.1) (record { venues = refl; trading = omega arith; not_trading = omega arith; not_known = refl })
 
-returns_4 : tie.Need-returns-4
+returns_4 : tie.Need-returns-in-NotShown
 returns_4 c =
     let at-enum-told4 = c in
-    rw (at-enum-told4.enum-told4.given.1) (record { venues = refl; trading = omega arith; not_trading = omega arith; not_known = omega arith })
+    rw (at-enum-told4.enum_told-in-NotShown-1.given.1) (record { venues = refl; trading = omega arith; not_trading = omega arith; not_known = omega arith })
 
 pub add_spec : {M : Type 1} → statement M
 add_spec =

@@ -11,63 +11,63 @@ use borrow.Author.Rules.{rules}
 use Rattle.classes.proofs.counting.count_rows.Statement.{statement}
 use Rattle.classes.proofs.counting.count_rows.Tie as tie
 
-abbrev invariant-loop : tie.invariant-loop
+abbrev invariant-loop : tie.invariant-loop-shown
 invariant-loop rows t sum₀ at₀ sum at = Summing rows t at sum
 
-abbrev decreases-loop : tie.decreases-loop
+abbrev decreases-loop : tie.decreases-loop-shown
 decreases-loop rows t sum₀ at₀ sum at = length rows - at
 
 -- a need, or a place, at this invariant and measure
-abbrev At : (tie.invariant-loop → tie.decreases-loop → Type 0) → Type 0
+abbrev At : (tie.invariant-loop-shown → tie.decreases-loop-shown → Type 0) → Type 0
 At it = it invariant-loop decreases-loop
 
 -- each count has room for one more
-few : (c : At tie.At-loop) → Few c.loop.sum
+few : (c : At tie.At-loop-shown) → Few c.loop-shown.sum
 few c =
     let at-start = c.before.before in
-    sum_few _ _ c.loop.invariant (omega (arith, c.before.shared-slice-known.given (length at-start.args.rows.now)))
+    sum_few _ _ c.loop-shown.invariant (omega (arith, c.before.shared_slice_known-1.given (length at-start.args.rows.now)))
 
 -- what the class of the row tells of it
-tells : (c : At tie.After-row-class) {x : Classed} → c.row-class.result ≡ x
+tells : (c : At tie.After-row_class) {x : Classed} → c.row_class.result ≡ x
     → let at-loop = c.before in
     let args = at-loop.before.before.args in
-    Classes true args.rows.now at-loop.loop.at args.t x
-tells c e = subst (Classes true _ _ _) e c.row-class.ensures
+    Classes true args.rows.now at-loop.loop-shown.at args.t x
+tells c e = subst (Classes true _ _ _) e c.row_class.ensures
 
-loop_holds : At tie.Need-loop-init
+loop_holds : At tie.Need-loop-shown-init
 loop_holds c = sum_start _ _ c.before.requires
 
-returns : At tie.Need-returns
+returns : At tie.Need-returns-in-Bad
 returns c =
     let at-row-class = c.before.before.before in
-    count_bad _ _ (at-row-class.before.loop.invariant.good ∙ tells at-row-class c.before.enum_told.given.1) c.no-count.ensures
+    count_bad _ _ (at-row-class.before.loop-shown.invariant.good ∙ tells at-row-class c.before.enum_told-1.given.1) c.no_count.ensures
 
 add_requires : At tie.Need-add-requires
 add_requires c κs = few c.before.before.before.before
 
-returns_2 : At tie.Need-returns-2
+returns_2 : At tie.Need-returns-in-Last
 returns_2 c =
     let at-add = c.before in
     let at-shown = at-add.before.before in
     let at-row-class = at-shown.before.before in
-    let summing = at-row-class.before.loop.invariant in
-    let only = tells at-row-class at-shown.shown.given.1 in
+    let summing = at-row-class.before.loop-shown.invariant in
+    let only = tells at-row-class at-shown.shown-1.given.1 in
     count_told _ _ (summing.good ∙ only.good) (c.counted.ensures ∙ sum_end _ _ summing at-add.add.ensures only)
 
-add_requires_2 : At tie.Need-add-requires-2
+add_requires_2 : At tie.Need-add-sum-requires
 add_requires_2 c κs = few c.before.before.before.before
 
-loop_less : At tie.Need-loop-smaller
+loop_less : At tie.Need-loop-shown-smaller
 loop_less c =
     let at-shown2 = c.before.before in
-    let another = tells at-shown2.before.before at-shown2.shown2.given.1 in
+    let another = tells at-shown2.before.before at-shown2.shown-in-More-1.given.1 in
     omega (arith, another.after, another.inside)
 
-loop_again : At tie.Need-loop-preserved
+loop_again : At tie.Need-loop-shown-preserved
 loop_again c =
     let at-shown2 = c.before.before in
     let at-row-class = at-shown2.before.before in
-    sum_on _ _ at-row-class.before.loop.invariant c.add2.ensures (tells at-row-class at-shown2.shown2.given.1)
+    sum_on _ _ at-row-class.before.loop-shown.invariant c.add-sum.ensures (tells at-row-class at-shown2.shown-in-More-1.given.1)
 
 pub count_rows_spec : {M : Type 1} → statement M
 count_rows_spec =

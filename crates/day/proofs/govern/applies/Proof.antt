@@ -7,14 +7,14 @@ use borrow.Author.Rules.{rules}
 use Rattle.day.proofs.govern.applies.Statement.{statement}
 use Rattle.day.proofs.govern.applies.Tie as tie
 
-returns : tie.Need-returns
+returns : tie.Need-returns-then-d-rule_first
 returns c =
     let at-if1 = c in
     let at-rule-first = at-if1.before.before.before in
     let at-start = at-rule-first.before.before in
-    early (rule_at at-start.args.book.now at-start.args.at) at-start.args.d.0 (omega (arith, at-rule-first.rule-first.ensures.0, at-if1.if1.true))
+    early (rule_at at-start.args.book.now at-start.args.at) at-start.args.d.0 (omega (arith, at-rule-first.rule_first.ensures.0, at-if1.if-d-rule_first.true))
 
-returns_2 : tie.Need-returns-2
+returns_2 : tie.Need-returns-then-rule_last-d
 returns_2 c =
     let at-if2 = c in
     let at-rule-last = at-if2.before.before.before in
@@ -22,9 +22,9 @@ returns_2 c =
     let at-rule-first = at-if1.before.before.before in
     let at-start = at-rule-first.before.before in
     late (rule_at at-start.args.book.now at-start.args.at) at-start.args.d.0
-    (omega (arith, at-rule-first.rule-first.ensures.0, at-if1.if1.false)) (omega (arith, at-rule-last.rule-last.ensures.0, at-if2.if2.true))
+    (omega (arith, at-rule-first.rule_first.ensures.0, at-if1.if-d-rule_first.false)) (omega (arith, at-rule-last.rule_last.ensures.0, at-if2.if-rule_last-d.true))
 
-returns_3 : tie.Need-returns-3
+returns_3 : tie.Need-returns-then-rule_code-ne0
 returns_3 c =
     let at-if3 = c in
     let at-rule-code = at-if3.before in
@@ -34,10 +34,10 @@ returns_3 c =
     let at-rule-first = at-if1.before.before.before in
     let at-start = at-rule-first.before.before in
     special_on (rule_at at-start.args.book.now at-start.args.at) at-start.args.d.0
-    (omega (arith, at-rule-first.rule-first.ensures.0, at-if1.if1.false)) (omega (arith, at-rule-last.rule-last.ensures.0, at-if2.if2.false))
-    (λ e. at-if3.if3.true (at-rule-code.rule-code.ensures.0 ∙ e))
+    (omega (arith, at-rule-first.rule_first.ensures.0, at-if1.if-d-rule_first.false)) (omega (arith, at-rule-last.rule_last.ensures.0, at-if2.if-rule_last-d.false))
+    (λ e. at-if3.if-rule_code-ne0.true (at-rule-code.rule_code.ensures.0 ∙ e))
 
-cast_marked : tie.Need-overflow-cast-marked
+cast_marked : tie.Need-overflow_cast-weekday
 cast_marked c =
     let at-weekday = c in
     omega (arith, at-weekday.weekday.ensures)
@@ -47,7 +47,7 @@ marked_requires c κs =
     let at-weekday = c in
     omega (arith, at-weekday.weekday.ensures)
 
-returns_4 : tie.Need-returns-4
+returns_4 : tie.Need-returns
 returns_4 c =
     let at-marked = c in
     let at-weekday = at-marked.before in
@@ -59,10 +59,10 @@ returns_4 c =
     let at-if1 = at-rule-last.before in
     let at-rule-first = at-if1.before.before.before in
     let at-start = at-rule-first.before.before in
-    at-marked.marked.ensures ∙ ap₂ marked at-rule-mask.rule-mask.ensures.0 at-weekday.weekday.ensures ∙ weekly_on
+    at-marked.marked.ensures ∙ ap₂ marked at-rule-mask.rule_mask.ensures.0 at-weekday.weekday.ensures ∙ weekly_on
     (rule_at at-start.args.book.now at-start.args.at) at-start.args.d.0
-    (omega (arith, at-rule-first.rule-first.ensures.0, at-if1.if1.false)) (omega (arith, at-rule-last.rule-last.ensures.0, at-if2.if2.false))
-    (sym at-rule-code.rule-code.ensures.0 ∙ at-if3.if3.false)
+    (omega (arith, at-rule-first.rule_first.ensures.0, at-if1.if-d-rule_first.false)) (omega (arith, at-rule-last.rule_last.ensures.0, at-if2.if-rule_last-d.false))
+    (sym at-rule-code.rule_code.ensures.0 ∙ at-if3.if-rule_code-ne0.false)
 
 pub applies_spec : {M : Type 1} → statement M
 applies_spec =

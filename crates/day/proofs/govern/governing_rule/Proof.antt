@@ -6,29 +6,29 @@ use mathlib.Core.Logic.{⊎_elim}
 use Rattle.day.proofs.govern.governing_rule.Statement.{statement}
 use Rattle.day.proofs.govern.governing_rule.Tie as tie
 
-abbrev invariant-loop : tie.invariant-loop
+abbrev invariant-loop : tie.invariant-loop-i
 invariant-loop book rules d best₀ i₀ best i = Choosing book rules d.0 best i
 
-abbrev decreases-loop : tie.decreases-loop
+abbrev decreases-loop : tie.decreases-loop-i
 decreases-loop book rules d best₀ i₀ best i = length rules - i
 
-loop_holds : tie.Need-loop-init invariant-loop decreases-loop
+loop_holds : tie.Need-loop-i-init invariant-loop decreases-loop
 loop_holds c = choose_start
 
-cast_takes : tie.Need-overflow-cast-takes invariant-loop decreases-loop
+cast_takes : tie.Need-overflow_cast-at invariant-loop decreases-loop
 cast_takes c =
     let at-shared-slice-known3 = c in
     let at-loop = at-shared-slice-known3.before.before in
-    omega (arith, at-shared-slice-known3.shared-slice-known3.given at-loop.loop.i)
+    omega (arith, at-shared-slice-known3.shared_slice_known-in-loop-i-1.given at-loop.loop-i.i)
 
 takes_requires : tie.Need-takes-requires invariant-loop decreases-loop
 takes_requires c κs =
     let at-loop-test = c.before in
     let at-loop = at-loop-test.before in
     let at-start = at-loop.before.before.before in
-    (at-start.requires _ at-loop-test.loop-test.true, at-loop.loop.invariant.stands)
+    (at-start.requires _ at-loop-test.loop-i-test.true, at-loop.loop-i.invariant.stands)
 
-loop_again : tie.Need-loop-preserved invariant-loop decreases-loop
+loop_again : tie.Need-loop-i-preserved invariant-loop decreases-loop
 loop_again c =
     let at-if1 = c in
     let at_takes = at-if1.before in
@@ -36,14 +36,14 @@ loop_again c =
     let at-loop = at-loop-test.before in
     let at-start = at-loop.before.before.before in
     ⊎_elim
-    (λ w. choose_one at-loop.loop.invariant at-loop-test.loop-test.true at-start.requires at_takes.takes.ensures w.0.taken w.1)
-    (λ w. choose_none at-loop.loop.invariant at-loop-test.loop-test.true at_takes.takes.ensures w.0.left w.1) at-if1.if1.branch
+    (λ w. choose_one at-loop.loop-i.invariant at-loop-test.loop-i-test.true at-start.requires at_takes.takes.ensures w.0.taken w.1)
+    (λ w. choose_none at-loop.loop-i.invariant at-loop-test.loop-i-test.true at_takes.takes.ensures w.0.left w.1) at-if1.if-takes.branch
 
 returns : tie.Need-returns invariant-loop decreases-loop
 returns c =
     let at-loop-test = c in
     let at-loop = at-loop-test.before in
-    chosen at-loop.loop.invariant at-loop-test.loop-test.false
+    chosen at-loop.loop-i.invariant at-loop-test.loop-i-test.false
 
 pub governing_rule_spec : {M : Type 1} → statement M
 governing_rule_spec =

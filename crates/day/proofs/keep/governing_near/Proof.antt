@@ -9,87 +9,87 @@ use Rattle.day.proofs.keep.governing_near.Statement.{statement}
 use Rattle.day.proofs.keep.governing_near.Tie as tie
 
 -- the array is as it is after the date is asked for, and so the rules are kept for it
-now_is : (c : tie.Joined2) → let at-start = c.before.before.before.before.before.before.before.before.before in
-    (c.if2.auto ≡ kept_after at-start.args.book.now at-start.args.rules.now at-start.args.d.0 at-start.args.kept.now)
-    × (length c.if2.auto ≡ length at-start.args.kept.now)
+now_is : (c : tie.Joined-d-kept) → let at-start = c.before.before.before.before.before.before.before.before.before in
+    (c.if-d-kept.auto ≡ kept_after at-start.args.book.now at-start.args.rules.now at-start.args.d.0 at-start.args.kept-1.now)
+    × (length c.if-d-kept.auto ≡ length at-start.args.kept-1.now)
 now_is c =
     let at-if1 = c.before.before.before.before.before in
     let at-start = at-if1.before.before.before.before in
-    let few = at-if1.if1.false in
+    let few = at-if1.if-rules-gt-MOST_RULES.false in
     ⊎_elim
     (λ w. rw w.5 (w.2.ensures ∙ after_anew _ at-start.args.rules.now _ _ at-start.requires.0 few w.0.taken, w.3.given))
-    (λ w. rw w.1 (after_still _ at-start.args.rules.now _ _ at-start.requires.0 few w.0.left, refl)) c.if2.branch
+    (λ w. rw w.1 (after_still _ at-start.args.rules.now _ _ at-start.requires.0 few w.0.left, refl)) c.if-d-kept.branch
 
-now_keeps : (c : tie.Joined2) → let at-start = c.before.before.before.before.before.before.before.before.before in
-    KeepsFor at-start.args.book.now at-start.args.rules.now at-start.args.d.0 c.if2.auto
+now_keeps : (c : tie.Joined-d-kept) → let at-start = c.before.before.before.before.before.before.before.before.before in
+    KeepsFor at-start.args.book.now at-start.args.rules.now at-start.args.d.0 c.if-d-kept.auto
 now_keeps c =
     let at-if1 = c.before.before.before.before.before in
     let at-start = at-if1.before.before.before.before in
-    rw (now_is c).0 (after_keeps _ at-start.args.rules.now at-start.args.kept.now at-start.args.d.0 at-start.requires.0 at-if1.if1.false at-start.requires.2 at-start.requires.1)
+    rw (now_is c).0 (after_keeps _ at-start.args.rules.now at-start.args.kept-1.now at-start.args.d.0 at-start.requires.0 at-if1.if-rules-gt-MOST_RULES.false at-start.requires.2 at-start.requires.1)
 
-governing_rule_requires : tie.Need-governing-rule-requires
+governing_rule_requires : tie.Need-governing_rule-requires
 governing_rule_requires c κs = search rules
 
-returns : tie.Need-returns
+returns : tie.Need-returns-then-rules-gt-MOST_RULES
 returns c =
     let at-if1 = c.before in
     let at-start = at-if1.before.before.before.before in
-    let told = c.governing-rule.ensures in
-    (told.0, told.1, told.2, at-start.requires.1, after_many _ at-start.args.rules.now _ _ at-start.requires.0 at-if1.if1.true)
+    let told = c.governing_rule.ensures in
+    (told.0, told.1, told.2, at-start.requires.1, after_many _ at-start.args.rules.now _ _ at-start.requires.0 at-if1.if-rules-gt-MOST_RULES.true)
 
-slice_read_if2 : tie.Need-slice-read-if2
+slice_read_if2 : tie.Need-bounds-kept-0
 slice_read_if2 c = search rules
 
-slice_read_if2_2 : tie.Need-slice-read-if2-2
+slice_read_if2_2 : tie.Need-bounds-kept-1
 slice_read_if2_2 c = search rules
 
 keep_requires : tie.Need-keep-requires
 keep_requires c κs = search rules
 
-slice_read_end : tie.Need-slice-read-end
+slice_read_end : tie.Need-bounds-kept-2
 slice_read_end c =
     let at-if2 = c.before in
     let at-start = at-if2.before.before.before.before.before.before.before.before.before in
     omega (arith, (now_is at-if2).1, at-start.requires.2)
 
-cast_end : tie.Need-overflow-cast-end
+cast_end : tie.Need-overflow_cast-end
 cast_end c =
     let at-slice-known5 = c in
-    omega (arith, at-slice-known5.slice-known5.given 2)
+    omega (arith, at-slice-known5.slice_known-4-1.given 2)
 
-add_end : tie.Need-overflow-add-end
+add_end : tie.Need-overflow_add-end
 add_end c =
     let at-slice-known5 = c in
-    omega (arith, at-slice-known5.slice-known5.given 2)
+    omega (arith, at-slice-known5.slice_known-4-1.given 2)
 
-sub_governing_rule : tie.Need-overflow-sub-governing-rule
+sub_governing_rule : tie.Need-slice_bounds-governing_rule-count
 sub_governing_rule c = search rules
 
-part_governing_rule_start : tie.Need-slice-bounds-governing-rule-start
+part_governing_rule_start : tie.Need-slice_bounds-governing_rule-start
 part_governing_rule_start c = search rules
 
-part_governing_rule_end : tie.Need-slice-bounds-governing-rule-end
+part_governing_rule_end : tie.Need-slice_bounds-governing_rule-end
 part_governing_rule_end c =
     let at-if2 = c.before.before in
     (now_keeps at-if2).keeps.ranges
 
-governing_rule_requires_2 : tie.Need-governing-rule-requires-2
+governing_rule_requires_2 : tie.Need-governing_rule-requires-2
 governing_rule_requires_2 c κs =
     let at-if2 = c.before.before.before in
     part_listed (now_keeps at-if2).keeps
 
-same_length : tie.Need-same-length
+same_length : tie.Need-shape_of-kept
 same_length c =
     let at-if2 = c.before.before.before.before in
     (now_is at-if2).1
 
-returns_2 : tie.Need-returns-2
+returns_2 : tie.Need-returns
 returns_2 c =
     let at-governing-rule2 = c in
     let at-if2 = at-governing-rule2.before.before.before.before in
     let k = now_keeps at-if2 in
-    let told = at-governing-rule2.governing-rule2.ensures in
-    let is = part_chosen k at-governing-rule2.governing-rule2.result told.1 told.2 in
+    let told = at-governing-rule2.governing_rule-2.ensures in
+    let is = part_chosen k at-governing-rule2.governing_rule-2.result told.1 told.2 in
     (is.0, is.1, is.2, k.keeps, (now_is at-if2).0)
 
 pub governing_near_spec : {M : Type 1} → statement M

@@ -6,84 +6,84 @@ use Rattle.day.proofs.Narrowing.{Narrowing, narrow_start, narrow_room, narrow_on
 use Rattle.day.proofs.narrow.near.Statement.{statement}
 use Rattle.day.proofs.narrow.near.Tie as tie
 
-abbrev invariant-loop : tie.invariant-loop
+abbrev invariant-loop : tie.invariant-loop-i
 invariant-loop book rules from to found₀ n₀ i₀ found n i = Narrowing book rules from.0 to.0 found₀ found n i
 
-abbrev decreases-loop : tie.decreases-loop
+abbrev decreases-loop : tie.decreases-loop-i
 decreases-loop book rules from to found₀ n₀ i₀ found n i = length rules - i
 
-loop_holds : tie.Need-loop-init invariant-loop decreases-loop
+loop_holds : tie.Need-loop-i-init invariant-loop decreases-loop
 loop_holds c =
     let at-start = c.before.before.before in
     narrow_start at-start.requires.1
 
-mul_at : tie.Need-overflow-mul-at invariant-loop decreases-loop
+mul_at : tie.Need-offset_bounds-rules-i invariant-loop decreases-loop
 mul_at c = omega arith
 
-shared_slice_read_at : tie.Need-shared-slice-read-at invariant-loop decreases-loop
+shared_slice_read_at : tie.Need-bounds-rules-i invariant-loop decreases-loop
 shared_slice_read_at c = omega arith
 
-cast_meets : tie.Need-overflow-cast-meets invariant-loop decreases-loop
+cast_meets : tie.Need-overflow_cast-at invariant-loop decreases-loop
 cast_meets c =
     let at-shared-slice-known3 = c in
     let at-loop = at-shared-slice-known3.before.before in
-    omega (arith, (at-shared-slice-known3.shared-slice-known3.given) (at-loop.loop.i))
+    omega (arith, (at-shared-slice-known3.shared_slice_known-in-loop-i-1.given) (at-loop.loop-i.i))
 
 meets_requires : tie.Need-meets-requires invariant-loop decreases-loop
 meets_requires c κs =
     let at-loop-test = c.before in
     let at-start = at-loop-test.before.before.before.before.before in
-    at-start.requires.0 _ (at-loop-test.loop-test.true)
+    at-start.requires.0 _ (at-loop-test.loop-i-test.true)
 
-mul_found : tie.Need-overflow-mul-found invariant-loop decreases-loop
+mul_found : tie.Need-offset_bounds-found-n invariant-loop decreases-loop
 mul_found c =
     let at-if1 = c in
     let at_Meets = at-if1.before in
     let at-loop-test = at_Meets.before.before in
     let at-loop = at-loop-test.before in
-    omega (arith, at-loop.loop.invariant.behind, at-loop-test.loop-test.true)
+    omega (arith, at-loop.loop-i.invariant.behind, at-loop-test.loop-i-test.true)
 
-slice_write_found : tie.Need-slice-write-found invariant-loop decreases-loop
+slice_write_found : tie.Need-bounds-found-n invariant-loop decreases-loop
 slice_write_found c =
     let at-if1 = c in
     let at_Meets = at-if1.before in
     let at-loop-test = at_Meets.before.before in
     let at-loop = at-loop-test.before in
-    narrow_room (at-loop.loop.invariant) (at-loop-test.loop-test.true) (at_Meets.meets.ensures) (at-if1.if1.true)
+    narrow_room (at-loop.loop-i.invariant) (at-loop-test.loop-i-test.true) (at_Meets.meets.ensures) (at-if1.if-meets.true)
 
-add_n : tie.Need-overflow-add-n invariant-loop decreases-loop
+add_n : tie.Need-overflow_add-n invariant-loop decreases-loop
 add_n c =
     let at-if1 = c in
     let at_Meets = at-if1.before in
     let at-loop-test = at_Meets.before.before in
     let at-loop = at-loop-test.before in
-    omega (arith, at-loop.loop.invariant.behind, at-loop-test.loop-test.true)
+    omega (arith, at-loop.loop-i.invariant.behind, at-loop-test.loop-i-test.true)
 
-add_i : tie.Need-overflow-add-i invariant-loop decreases-loop
+add_i : tie.Need-overflow_add-i invariant-loop decreases-loop
 add_i c = omega arith
 
-loop_less : tie.Need-loop-smaller invariant-loop decreases-loop
+loop_less : tie.Need-loop-i-smaller invariant-loop decreases-loop
 loop_less c = omega arith
 
-loop_again : tie.Need-loop-preserved invariant-loop decreases-loop
+loop_again : tie.Need-loop-i-preserved invariant-loop decreases-loop
 loop_again c =
     let at-if1 = c in
     let at_Meets = at-if1.before in
     let at-loop-test = at_Meets.before.before in
     let at-loop = at-loop-test.before in
-    ⊎_elim (λ w. narrow_one at-loop.loop.invariant at-loop-test.loop-test.true at_Meets.meets.ensures w.0.taken w.1 w.2)
-    (λ w. narrow_none at-loop.loop.invariant at-loop-test.loop-test.true at_Meets.meets.ensures w.0.left w.1 w.2) at-if1.if1.branch
+    ⊎_elim (λ w. narrow_one at-loop.loop-i.invariant at-loop-test.loop-i-test.true at_Meets.meets.ensures w.0.taken w.1 w.2)
+    (λ w. narrow_none at-loop.loop-i.invariant at-loop-test.loop-i-test.true at_Meets.meets.ensures w.0.left w.1 w.2) at-if1.if-meets.branch
 
-same_length : tie.Need-same-length invariant-loop decreases-loop
+same_length : tie.Need-shape_of-found invariant-loop decreases-loop
 same_length c =
     let at-loop = c.before in
-    at-loop.loop.invariant.storing.kept
+    at-loop.loop-i.invariant.storing.kept
 
 returns : tie.Need-returns invariant-loop decreases-loop
 returns c =
     let at-loop-test = c in
     let at-loop = at-loop-test.before in
-    narrowed (at-loop.loop.invariant) (at-loop-test.loop-test.false)
+    narrowed (at-loop.loop-i.invariant) (at-loop-test.loop-i-test.false)
 
 pub near_spec : {M : Type 1} → statement M
 near_spec =

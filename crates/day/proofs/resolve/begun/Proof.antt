@@ -3,17 +3,17 @@ use borrow.Author.Rules.{rules}
 use Rattle.day.proofs.resolve.begun.Statement.{statement}
 use Rattle.day.proofs.resolve.begun.Tie as tie
 
-returns_2 : tie.Need-returns-2
+returns_2 : tie.Need-returns-then-at-t
 returns_2 c =
     let at-if1 = c in
     let at-s = at-if1.before.before.before.before.before.before in
-    rw (at-s.s.given.1, le-leb _ _ at-if1.if1.true)
+    rw (at-s.s-1.given.1, le-leb _ _ at-if1.if-at-t.true)
 
-returns_3 : tie.Need-returns-3
+returns_3 : tie.Need-returns-else-at-t
 returns_3 c =
     let at-if1 = c in
     let at-s = at-if1.before.before.before.before.before.before in
-    rw (at-s.s.given.1, lt-leb _ _ at-if1.if1.false)
+    rw (at-s.s-1.given.1, lt-leb _ _ at-if1.if-at-t.false)
 
 pub begun_spec : {M : Type 1} → statement M
 begun_spec = tie.close (tie.spec (λ c. search rules) (λ c. search rules) (λ c. search rules) returns_2 returns_3)

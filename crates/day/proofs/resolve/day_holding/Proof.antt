@@ -10,7 +10,7 @@ use Rattle.day.specs.Governing.{governing_place}
 
 returns : tie.Need-returns
 returns c =
-    let found = c.before.day-segment-after in
+    let found = c.before.day_segment_after in
     let args = c.before.before.before.before.before.before.args in
     let s = args.book.now in
     let t = args.t.0 in (

@@ -30,23 +30,23 @@ found_on c d = look (λ (h : Held). h) (spans (venue_in c) d) c.args.t.0
 abbrev book_in : tie.Start → List ℕ
 book_in c = c.args.book.now
 
-abbrev start : tie.After-day-at → tie.Start
+abbrev start : tie.After-day_at-today → tie.Start
 start c = c.before.before.before.before.before.before.before.before.before.before.before
 
-abbrev today : tie.After-day-holding → tie.After-day-at
+abbrev today : tie.After-day_holding → tie.After-day_at-today
 today c = c.before.before.before
 
-abbrev today2 : tie.After-day-holding2 → tie.After-day-at
+abbrev today2 : tie.After-day_holding-in-Missing → tie.After-day_at-today
 today2 c = today c.before.before.before
 
 -- yesterday's
-earlier : (c : tie.After-day-holding)
-    → let s = start (today c) in held (book_in s) c.day-holding.result ≡ found_on s ((today c).day-at.result.0 - 1)
-earlier c = c.day-holding.ensures.0 ∙ ap (found_on (start (today c))) c.before.before.day-before.ensures
+earlier : (c : tie.After-day_holding)
+    → let s = start (today c) in held (book_in s) c.day_holding.result ≡ found_on s ((today c).day_at-today.result.0 - 1)
+earlier c = c.day_holding.ensures.0 ∙ ap (found_on (start (today c))) c.before.before.day_before-yesterday.ensures
 
 -- the date before today
-today_before : (c : tie.After-day-holding) → c.before.before.day-before.result.0 ≡ (today c).day-at.result.0 - 1
-today_before c = c.before.before.day-before.ensures
+today_before : (c : tie.After-day_holding) → c.before.before.day_before-yesterday.result.0 ≡ (today c).day_at-today.result.0 - 1
+today_before c = c.before.before.day_before-yesterday.ensures
 
 -- what was found on a date, where that is the date that holds the instant
 placed_at : (c : tie.Start) {r r' : Spanned} → r ≡ r' → {d e : ℕ} → d ≡ e → holding_date (venue_in c) c.args.t.0 ≡ e
@@ -58,76 +58,76 @@ placed_at c {r} {r'} i {d} j k h =
 
 -- ---- the needs
 
-returns : tie.Need-returns
+returns : tie.Need-returns-then-t-start
 returns c =
     let s = c.before.before.before.before.before.before.before in
-    (point_before (venue_in s) _ s.args.t.0 c.if1.true, tt)
+    (point_before (venue_in s) _ s.args.t.0 c.if-t-start.true, tt)
 
-returns_2 : tie.Need-returns-2
+returns_2 : tie.Need-returns-then-end-t
 returns_2 c =
     let s = c.before.before.before.before.before.before.before.before.before.before in
-    (point_behind (venue_in s) _ s.args.t.0 c.if2.true, tt)
+    (point_behind (venue_in s) _ s.args.t.0 c.if-end-t.true, tt)
 
-day_at_requires : tie.Need-day-at-requires
+day_at_requires : tie.Need-day_at-today-requires
 day_at_requires c κs = c.before.before.before.before.before.before.before.before.before.before.requires.0
 
-add_t15 : tie.Need-overflow-add-t15
+add_t15 : tie.Need-overflow_add-tomorrow
 add_t15 c =
     let at-day-at = c.before.before in
     let s = start at-day-at in
-    omega (arith, at-day-at.day-at.ensures, date_small s.args.offset0 s.args.ats.now s.args.offsets.now s.args.t.0 s.pre.0)
+    omega (arith, at-day-at.day_at-today.ensures, date_small s.args.offset0 s.args.ats.now s.args.offsets.now s.args.t.0 s.pre.0)
 
-day_holding_requires : tie.Need-day-holding-requires
+day_holding_requires : tie.Need-day_holding-requires
 day_holding_requires c κs = (start c.before.before).requires
 
-day_holding_requires_2 : tie.Need-day-holding-requires-2
+day_holding_requires_2 : tie.Need-day_holding-requires-in-Missing
 day_holding_requires_2 c κs = (start (today c.before.before)).requires
 
-day_holding_requires_3 : tie.Need-day-holding-requires-3
+day_holding_requires_3 : tie.Need-day_holding-requires-in-Missing-day_holding
 day_holding_requires_3 c κs = (start (today2 c.before.before)).requires
 
-returns_3 : tie.Need-returns-3
+returns_3 : tie.Need-returns-in-Whole
 returns_3 c =
     let at_g = c.before in
     let e = at_g.before.before in
     let d = today e in
     let s = start d in (
-      by_first (venue_in s) _ s.args.t.0 d.before.before.before.before.if1.left d.before.if2.left _ d.day-at.ensures _
-          (ap (held (book_in s)) (sym at_g.g.given.1) ∙ earlier e),
-      placed_at s at_g.g.given.1 (today_before e) (on_first (venue_in s) _ s.args.t.0 d.before.before.before.before.if1.left d.before.if2.left _ d.day-at.ensures
-          (ap (held (book_in s)) (sym at_g.g.given.1) ∙ earlier e)) e.day-holding.ensures.1,
+      by_first (venue_in s) _ s.args.t.0 d.before.before.before.before.if-t-start.left d.before.if-end-t.left _ d.day_at-today.ensures _
+          (ap (held (book_in s)) (sym at_g.g-1.given.1) ∙ earlier e),
+      placed_at s at_g.g-1.given.1 (today_before e) (on_first (venue_in s) _ s.args.t.0 d.before.before.before.before.if-t-start.left d.before.if-end-t.left _ d.day_at-today.ensures
+          (ap (held (book_in s)) (sym at_g.g-1.given.1) ∙ earlier e)) e.day_holding.ensures.1,
     )
 
-returns_4 : tie.Need-returns-4
+returns_4 : tie.Need-returns-in-Whole-day_holding
 returns_4 c =
     let at-g2 = c.before in
     let f = at-g2.before.before in
     let e = f.before.before.before in
     let d = today2 f in
     let s = start d in (
-      by_second (venue_in s) _ s.args.t.0 d.before.before.before.before.if1.left d.before.if2.left _ d.day-at.ensures
-          (ap (held (book_in s)) (sym f.before.enum_told.given.1) ∙ earlier e) _
-          (ap (held (book_in s)) (sym at-g2.g2.given.1) ∙ f.day-holding2.ensures.0),
-      placed_at s at-g2.g2.given.1 refl
-          (on_second (venue_in s) _ s.args.t.0 d.before.before.before.before.if1.left d.before.if2.left _ d.day-at.ensures
-          (ap (held (book_in s)) (sym f.before.enum_told.given.1) ∙ earlier e)
-          (ap (held (book_in s)) (sym at-g2.g2.given.1) ∙ f.day-holding2.ensures.0)) f.day-holding2.ensures.1,
+      by_second (venue_in s) _ s.args.t.0 d.before.before.before.before.if-t-start.left d.before.if-end-t.left _ d.day_at-today.ensures
+          (ap (held (book_in s)) (sym f.before.enum_told-1.given.1) ∙ earlier e) _
+          (ap (held (book_in s)) (sym at-g2.g-in-Whole-day_holding-2-1.given.1) ∙ f.day_holding-in-Missing.ensures.0),
+      placed_at s at-g2.g-in-Whole-day_holding-2-1.given.1 refl
+          (on_second (venue_in s) _ s.args.t.0 d.before.before.before.before.if-t-start.left d.before.if-end-t.left _ d.day_at-today.ensures
+          (ap (held (book_in s)) (sym f.before.enum_told-1.given.1) ∙ earlier e)
+          (ap (held (book_in s)) (sym at-g2.g-in-Whole-day_holding-2-1.given.1) ∙ f.day_holding-in-Missing.ensures.0)) f.day_holding-in-Missing.ensures.1,
     )
 
-returns_5 : tie.Need-returns-5
+returns_5 : tie.Need-returns-in-Missing-day_holding
 returns_5 c =
     let f = c.before.before.before in
     let e = f.before.before.before in
     let d = today2 f in
     let s = start d in (
-      by_third (venue_in s) _ s.args.t.0 d.before.before.before.before.if1.left d.before.if2.left _ d.day-at.ensures
-          (ap (held (book_in s)) (sym f.before.enum_told.given.1) ∙ earlier e)
-          (ap (held (book_in s)) (sym c.before.enum-told2.given.1) ∙ f.day-holding2.ensures.0) _
-          (c.day-holding3.ensures.0 ∙ ap (found_on s) (add-one _)),
-      placed_at s {r = c.day-holding3.result} refl (add-one _)
-          (on_third (venue_in s) _ s.args.t.0 d.before.before.before.before.if1.left d.before.if2.left _ d.day-at.ensures
-          (ap (held (book_in s)) (sym f.before.enum_told.given.1) ∙ earlier e)
-          (ap (held (book_in s)) (sym c.before.enum-told2.given.1) ∙ f.day-holding2.ensures.0)) c.day-holding3.ensures.1,
+      by_third (venue_in s) _ s.args.t.0 d.before.before.before.before.if-t-start.left d.before.if-end-t.left _ d.day_at-today.ensures
+          (ap (held (book_in s)) (sym f.before.enum_told-1.given.1) ∙ earlier e)
+          (ap (held (book_in s)) (sym c.before.enum_told-in-Missing-day_holding-1.given.1) ∙ f.day_holding-in-Missing.ensures.0) _
+          (c.day_holding-in-Missing-day_holding.ensures.0 ∙ ap (found_on s) (add-one _)),
+      placed_at s {r = c.day_holding-in-Missing-day_holding.result} refl (add-one _)
+          (on_third (venue_in s) _ s.args.t.0 d.before.before.before.before.if-t-start.left d.before.if-end-t.left _ d.day_at-today.ensures
+          (ap (held (book_in s)) (sym f.before.enum_told-1.given.1) ∙ earlier e)
+          (ap (held (book_in s)) (sym c.before.enum_told-in-Missing-day_holding-1.given.1) ∙ f.day_holding-in-Missing.ensures.0)) c.day_holding-in-Missing-day_holding.ensures.1,
     )
 
 pub resolve_phase_spec : {M : Type 1} → statement M

@@ -10,17 +10,17 @@ use borrow.Author.Rules.{rules}
 use Rattle.events.proofs.seek.count_events.Statement.{statement}
 use Rattle.events.proofs.seek.count_events.Tie as tie
 
-returns : tie.Need-returns
+returns : tie.Need-returns-then-events-eq0
 returns c =
     let at-if1 = c in
     let at-start = at-if1.before.before.before.before.before in
     let args = at-start.args in (
       sym (ap length (none_found (zone_of args.offset0 args.ats.now args.offsets.now) args.book.now args.events.now args.from.0
-          args.to.0 (omega (arith, at-if1.if1.true)))),
+          args.to.0 (omega (arith, at-if1.if-events-eq0.true)))),
       omega arith,
     )
 
-returns_2 : tie.Need-returns-2
+returns_2 : tie.Need-returns-in-All
 returns_2 c =
     let at_n = c.before in
     let at-collect = at_n.before.before.before.before in
@@ -28,13 +28,13 @@ returns_2 c =
     let pre = at-start.requires in
     let args = at-start.args in
     let all = collects_all args.book.now args.offset0 args.ats.now args.offsets.now args.events.now pre.0 pre.1 args.from.0
-    args.to.0 at-collect.collect.ensures at_n.n.given.1 in
+    args.to.0 at-collect.collect.ensures at_n.n-1.given.1 in
     let few = found_few args.book.now args.offset0 args.ats.now args.offsets.now args.events.now pre.0 pre.1 pre.2
     args.from.0 args.to.0 in
     (all.count, omega (arith, all.count, few))
 
-returns_3 : tie.Need-returns-3
-returns_3 c = (begun_count 0 0 _ c.search-events.ensures.0, c.search-events.ensures.1)
+returns_3 : tie.Need-returns-in-Unsteady
+returns_3 c = (begun_count 0 0 _ c.search_events-s.ensures.0, c.search_events-s.ensures.1)
 
 pub count_events_spec : {M : Type 1} → statement M
 count_events_spec =

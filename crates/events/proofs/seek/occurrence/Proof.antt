@@ -14,8 +14,8 @@ returns c =
     let at-start = at-event-uncertainty.before.before.before.before in
     let args = at-start.args in
     occurrence_by (zone_of args.offset0 args.ats.now args.offsets.now) args.d.0 args.time (event_at args.book.now args.event) _ _
-    _ _ at-event-uncertainty.event-uncertainty.ensures at-to-utc-at.to-utc-at.ensures at-event-code.event-code.ensures
-    at-event-evidence.event-evidence.ensures
+    _ _ at-event-uncertainty.event_uncertainty.ensures at-to-utc-at.to_utc_at-boundary.ensures at-event-code.event_code.ensures
+    at-event-evidence.event_evidence.ensures
 
 pub occurrence_spec : {M : Type 1} → statement M
 occurrence_spec =

@@ -11,47 +11,47 @@ use native.Mathlib.Omega.{arith}
 use Rattle.events.proofs.seek.on_date.Statement.{statement}
 use Rattle.events.proofs.seek.on_date.Tie as tie
 
-abbrev invariant-loop : tie.invariant-loop
+abbrev invariant-loop : tie.invariant-loop-i
 invariant-loop book first ats offsets events d from to so-far₀ i₀ so_far i =
     Passing (λ (ps : List ℕ). on_date (zone_of first ats offsets) from.0 to.0 d.0 (map (event_at book) ps)) events 8 so-far₀ so_far i
 
-abbrev decreases-loop : tie.decreases-loop
+abbrev decreases-loop : tie.decreases-loop-i
 decreases-loop book first ats offsets events d from to so-far₀ i₀ so_far i = length events - i
 
-cast_event : tie.Need-overflow-cast-event invariant-loop decreases-loop
+cast_event : tie.Need-overflow_cast-event invariant-loop decreases-loop
 cast_event c =
     let at-loop-test = c.before in
     let at-loop = at-loop-test.before in
     let at-start = at-loop.before.before.before.before.before in
-    let l = at-start.requires.1 at-loop.loop.i at-loop-test.loop-test.true in
+    let l = at-start.requires.1 at-loop.loop-i.i at-loop-test.loop-i-test.true in
     omega (arith, l.small, l.frame)
 
-event_first_requires : tie.Need-event-first-requires invariant-loop decreases-loop
+event_first_requires : tie.Need-event_first-requires invariant-loop decreases-loop
 event_first_requires c κs =
     let at-loop-test = c.before in
     let at-loop = at-loop-test.before in
     let at-start = at-loop.before.before.before.before.before in
-    at-start.requires.1 at-loop.loop.i at-loop-test.loop-test.true
+    at-start.requires.1 at-loop.loop-i.i at-loop-test.loop-i-test.true
 
-event_last_requires : tie.Need-event-last-requires invariant-loop decreases-loop
+event_last_requires : tie.Need-event_last-requires invariant-loop decreases-loop
 event_last_requires c κs =
     let at-loop-test = c.before.before.before.before in
     let at-loop = at-loop-test.before in
     let at-start = at-loop.before.before.before.before.before in
-    at-start.requires.1 at-loop.loop.i at-loop-test.loop-test.true
+    at-start.requires.1 at-loop.loop-i.i at-loop-test.loop-i-test.true
 
-on_times_requires : tie.Need-on-times-requires invariant-loop decreases-loop
+on_times_requires : tie.Need-on_times-so_far-requires invariant-loop decreases-loop
 on_times_requires c κs =
     let at-loop-test = c.before.before.before.before.before.before.before.before in
     let at-loop = at-loop-test.before in
     let at-start = at-loop.before.before.before.before.before in (
       at-start.requires.0,
-      at-start.requires.1 at-loop.loop.i at-loop-test.loop-test.true,
+      at-start.requires.1 at-loop.loop-i.i at-loop-test.loop-i-test.true,
       omega
-          (arith, at-start.requires.3, at-start.requires.2, at-loop.loop.invariant.few, at-loop-test.loop-test.true),
+          (arith, at-start.requires.3, at-start.requires.2, at-loop.loop-i.invariant.few, at-loop-test.loop-i-test.true),
     )
 
-loop_again : tie.Need-loop-preserved invariant-loop decreases-loop
+loop_again : tie.Need-loop-i-preserved invariant-loop decreases-loop
 loop_again c =
     let at-event-last = c.before.before.before in
     let at-event-first = at-event-last.before.before.before in
@@ -59,16 +59,16 @@ loop_again c =
     let at-loop = at-loop-test.before in
     let at-start = at-loop.before.before.before.before.before in
     let z = zone_of at-start.args.offset0 at-start.args.ats.now at-start.args.offsets.now in
-    ⊎_elim (λ w. event_met z _ _ _ _ _ at-loop.loop.invariant at-loop-test.loop-test.true refl at-event-first.event-first.ensures.0
-    at-event-last.event-last.ensures.0 w.0.taken w.1.ensures.0 w.1.ensures.1 w.2) (λ w. event_passed z _ _ _ _ _
-    at-loop.loop.invariant at-loop-test.loop-test.true refl at-event-first.event-first.ensures.0 at-event-last.event-last.ensures.0
-    w.0.left w.1) c.if1.branch
+    ⊎_elim (λ w. event_met z _ _ _ _ _ at-loop.loop-i.invariant at-loop-test.loop-i-test.true refl at-event-first.event_first.ensures.0
+    at-event-last.event_last.ensures.0 w.0.taken w.1.ensures.0 w.1.ensures.1 w.2) (λ w. event_passed z _ _ _ _ _
+    at-loop.loop-i.invariant at-loop-test.loop-i-test.true refl at-event-first.event_first.ensures.0 at-event-last.event_last.ensures.0
+    w.0.left w.1) c.if-event_first-d.branch
 
 returns : tie.Need-returns invariant-loop decreases-loop
 returns c =
     let at-loop = c.before in
     let at-start = at-loop.before.before.before.before.before in
-    events_end _ _ _ _ at-start.args.book.now _ at-loop.loop.invariant c.loop-test.false (omega (arith, at-loop.loop.invariant.inside, at-start.requires.2))
+    events_end _ _ _ _ at-start.args.book.now _ at-loop.loop-i.invariant c.loop-i-test.false (omega (arith, at-loop.loop-i.invariant.inside, at-start.requires.2))
 
 pub on_date_spec : {M : Type 1} → statement M
 on_date_spec =

@@ -11,14 +11,14 @@ use borrow.Author.Rules.{rules}
 use Rattle.events.proofs.seek.on_times.Statement.{statement}
 use Rattle.events.proofs.seek.on_times.Tie as tie
 
-abbrev invariant-loop : tie.invariant-loop
+abbrev invariant-loop : tie.invariant-loop-i
 invariant-loop book first ats offsets event d from to times so-far₀ i₀ so_far i =
     Passing (on_times (zone_of first ats offsets) from.0 to.0 d.0 (event_at book event)) (event_at book event).times 1 so-far₀ so_far i
 
-abbrev decreases-loop : tie.decreases-loop
+abbrev decreases-loop : tie.decreases-loop-i
 decreases-loop book first ats offsets event d from to times so-far₀ i₀ so_far i = times - i
 
-loop_again : tie.Need-loop-preserved invariant-loop decreases-loop
+loop_again : tie.Need-loop-i-preserved invariant-loop decreases-loop
 loop_again c =
     let at-happens = c.before in
     let at-occurrence = at-happens.before in
@@ -30,11 +30,11 @@ loop_again c =
     let args = at-start.args in
     let z = zone_of args.offset0 args.ats.now args.offsets.now in
     let e = event_at args.book.now args.event in
-    let h : at-loop.loop.i < length e.times = omega (arith, at-event-times.event-times.ensures.0, at-loop-test.loop-test.true) in
+    let h : at-loop.loop-i.i < length e.times = omega (arith, at-event-times.event_times-times.ensures.0, at-loop-test.loop-i-test.true) in
     let asked = sym at-happens.happens.ensures in
-    ⊎_elim (λ w. time_met z _ _ _ e at-loop.loop.invariant h at-event-time.event-time.ensures.0 at-occurrence.occurrence.ensures
-    (asked ∙ w.0.taken) (w.2 ∙ w.1.ensures)) (λ w. time_passed z _ _ _ e at-loop.loop.invariant h at-event-time.event-time.ensures.0
-    at-occurrence.occurrence.ensures (asked ∙ w.0.left) w.1) c.if1.branch
+    ⊎_elim (λ w. time_met z _ _ _ e at-loop.loop-i.invariant h at-event-time.event_time.ensures.0 at-occurrence.occurrence-o.ensures
+    (asked ∙ w.0.taken) (w.2 ∙ w.1.ensures)) (λ w. time_passed z _ _ _ e at-loop.loop-i.invariant h at-event-time.event_time.ensures.0
+    at-occurrence.occurrence-o.ensures (asked ∙ w.0.left) w.1) c.if-happens.branch
 
 returns : tie.Need-returns invariant-loop decreases-loop
 returns c =
@@ -42,8 +42,8 @@ returns c =
     let at-event-times = at-loop.before in
     let at-start = at-event-times.before.before.before.before in
     let e = event_at at-start.args.book.now at-start.args.event in
-    let n = at-event-times.event-times.ensures in
-    times_end _ _ _ _ e at-loop.loop.invariant (omega (arith, n.0, c.loop-test.false)) (omega (arith, n.0, n.1, at-loop.loop.invariant.inside))
+    let n = at-event-times.event_times-times.ensures in
+    times_end _ _ _ _ e at-loop.loop-i.invariant (omega (arith, n.0, c.loop-i-test.false)) (omega (arith, n.0, n.1, at-loop.loop-i.invariant.inside))
 
 pub on_times_spec : {M : Type 1} → statement M
 on_times_spec =

@@ -9,25 +9,25 @@ use native.Mathlib.Omega.{arith}
 use Rattle.events.proofs.steady.next_kept.Statement.{statement}
 use Rattle.events.proofs.steady.next_kept.Tie as tie
 
-abbrev invariant-loop : tie.invariant-loop
+abbrev invariant-loop : tie.invariant-loop-i
 invariant-loop when n at index best₀ first₀ i₀ best first i =
     (i ≤ n) × (best ≤ n) × (best < n → get_or when best 0 ≡ first)
     × ((o : ℕ → Occurrence) → ((j : ℕ) → j < n → (o j).boundary.at.0 ≡ get_or when j 0) → Seeks o n at.0 index i best)
 
-abbrev decreases-loop : tie.decreases-loop
+abbrev decreases-loop : tie.decreases-loop-i
 decreases-loop when n at index best₀ first₀ i₀ best first i = n - i
 
-loop_holds : tie.Need-loop-init invariant-loop decreases-loop
+loop_holds : tie.Need-loop-i-init invariant-loop decreases-loop
 loop_holds c = (omega arith, omega arith, (λ h. absurd (omega arith)), λ o same. seek_start o c.args.n c.args.at.0 c.args.index)
 
-loop_again : tie.Need-loop-preserved invariant-loop decreases-loop
+loop_again : tie.Need-loop-i-preserved invariant-loop decreases-loop
 loop_again c =
     let at-loop-test = c.before.before.before.before in
     let at-loop = at-loop-test.before in
     let at-start = at-loop.before in
-    let i = at-loop.loop.i in
-    let inv = at-loop.loop.invariant in
-    let within = at-loop-test.loop-test.true in
+    let i = at-loop.loop-i.i in
+    let inv = at-loop.loop-i.invariant in
+    let within = at-loop-test.loop-i-test.true in
     let when = at-start.args.when.now in
     ⊎_elim
     (λ w. (
@@ -35,27 +35,27 @@ loop_again c =
       omega (arith, within, w.1),
       (λ h. ap (λ (k : ℕ). get_or when k 0) w.1 ∙ sym w.2),
       λ o same.
-          seek_one o at-start.args.n at-start.args.at.0 at-start.args.index i at-loop.loop.best at-loop.loop.first _ c.if1.best
-          (inv.3 o same) within inv.1 (same i within) (λ h. same at-loop.loop.best h ∙ inv.2 h) true w.0.taken w.1,
+          seek_one o at-start.args.n at-start.args.at.0 at-start.args.index i at-loop.loop-i.best at-loop.loop-i.first _ c.if-here-best.best
+          (inv.3 o same) within inv.1 (same i within) (λ h. same at-loop.loop-i.best h ∙ inv.2 h) true w.0.taken w.1,
     ))
     (λ w. (
       omega (arith, within),
       omega (arith, inv.1, w.1),
       (λ h. ap (λ (k : ℕ). get_or when k 0) w.1 ∙ inv.2 (omega (arith, h, w.1)) ∙ sym w.2),
       λ o same.
-          seek_one o at-start.args.n at-start.args.at.0 at-start.args.index i at-loop.loop.best at-loop.loop.first _ c.if1.best
-          (inv.3 o same) within inv.1 (same i within) (λ h. same at-loop.loop.best h ∙ inv.2 h) false w.0.left w.1,
+          seek_one o at-start.args.n at-start.args.at.0 at-start.args.index i at-loop.loop-i.best at-loop.loop-i.first _ c.if-here-best.best
+          (inv.3 o same) within inv.1 (same i within) (λ h. same at-loop.loop-i.best h ∙ inv.2 h) false w.0.left w.1,
     ))
-    c.if1.branch
+    c.if-here-best.branch
 
 returns : tie.Need-returns invariant-loop decreases-loop
 returns c =
     let at-loop = c.before in
     let at-start = at-loop.before in
     record {
-      within = at-loop.loop.invariant.1;
+      within = at-loop.loop-i.invariant.1;
       best = λ o same.
-          seek_end o at-start.args.n at-start.args.at.0 at-start.args.index at-loop.loop.i at-loop.loop.best (at-loop.loop.invariant.3 o same) c.loop-test.false;
+          seek_end o at-start.args.n at-start.args.at.0 at-start.args.index at-loop.loop-i.i at-loop.loop-i.best (at-loop.loop-i.invariant.3 o same) c.loop-i-test.false;
     }
 
 pub next_kept_spec : {M : Type 1} → statement M

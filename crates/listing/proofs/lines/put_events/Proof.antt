@@ -10,40 +10,40 @@ use Prim.Native.Nat.{◌*◌}
 use Rattle.listing.proofs.lines.put_events.Statement.{statement}
 use Rattle.listing.proofs.lines.put_events.Tie as tie
 
-abbrev invariant-loop : tie.invariant-loop
+abbrev invariant-loop : tie.invariant-loop-left
 invariant-loop answer first n out₀ at place₀ from₀ left₀ out place from left =
     Inside from (event_size * left) answer × Going out₀ at (event_lines (events_from answer first n)) (event_lines (events_from answer from left)) out place
 
-abbrev decreases-loop : tie.decreases-loop
+abbrev decreases-loop : tie.decreases-loop-left
 decreases-loop answer first n out₀ at place₀ from₀ left₀ out place from left = left
 
 -- a need, or a place, at this invariant and measure
-abbrev At : (tie.invariant-loop → tie.decreases-loop → Type 0) → Type 0
+abbrev At : (tie.invariant-loop-left → tie.decreases-loop-left → Type 0) → Type 0
 At it = it invariant-loop decreases-loop
 
-loop_holds : At tie.Need-loop-init
+loop_holds : At tie.Need-loop-left-init
 loop_holds c = let at-start = c.before.before in (at-start.requires.0, begins _ _ _ at-start.requires.1)
 
-put_event_requires : At tie.Need-put-event-requires
+put_event_requires : At tie.Need-put_event-place-requires
 put_event_requires c κs =
     let at-read-event = c.before.before in
     let l = at-read-event.before in
-    let read = at-read-event.read-event.ensures in
-    rw (same_event _ _ _ _ read.0 read.1) (fits_next _ (event_one _ _ _ l.loop-test.true l.before.loop.invariant.1))
+    let read = at-read-event.read_event-e.ensures in
+    rw (same_event _ _ _ _ read.0 read.1) (fits_next _ (event_one _ _ _ l.loop-left-test.true l.before.loop-left.invariant.1))
 
-loop_again : At tie.Need-loop-preserved
+loop_again : At tie.Need-loop-left-preserved
 loop_again c =
     let at-put-event = c.before.before in
     let at-read-event = at-put-event.before.before.before in
     let l = at-read-event.before in
-    let read = at-read-event.read-event.ensures in
+    let read = at-read-event.read_event-e.ensures in
     rw read.2 (
-      omega (arith, l.loop-test.true, l.before.loop.invariant.0),
-      goes_on (event_one _ _ _ l.loop-test.true l.before.loop.invariant.1) (event_put _ _ _ _ read.0 read.1 at-put-event.put-event.ensures),
+      omega (arith, l.loop-left-test.true, l.before.loop-left.invariant.0),
+      goes_on (event_one _ _ _ l.loop-left-test.true l.before.loop-left.invariant.1) (event_put _ _ _ _ read.0 read.1 at-put-event.put_event-place.ensures),
     )
 
 returns : At tie.Need-returns
-returns c = event_none _ _ _ (omega (arith, c.loop-test.false)) c.before.loop.invariant.1
+returns c = event_none _ _ _ (omega (arith, c.loop-left-test.false)) c.before.loop-left.invariant.1
 
 pub put_events_spec : {M : Type 1} → statement M
 put_events_spec =

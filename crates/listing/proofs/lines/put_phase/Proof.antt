@@ -7,46 +7,46 @@ use Rattle.listing.proofs.lines.put_phase.Statement.{statement}
 use Rattle.listing.proofs.lines.put_phase.Tie as tie
 
 -- the entry, from where the word is written
-abbrev entry : tie.After-put-byte → tie.Start
+abbrev entry : tie.After-put_byte-a → tie.Start
 entry c = c.before.before.before
 
 -- behind each part of the line the others fit
-behind_word : (c : tie.After-put-byte)
+behind_word : (c : tie.After-put_byte-a)
     → let args = (entry c).args in
-    TextFits c.put_byte.result (fields (instant args.from.0 ∷ instant args.to.0 ∷ decimal args.p ∷ decimal args.evidence ∷ [])) c.put_byte.new.0
-behind_word c = rest (entry c).requires c.put_byte.ensures
+    TextFits c.put_byte-a.result (fields (instant args.from.0 ∷ instant args.to.0 ∷ decimal args.p ∷ decimal args.evidence ∷ [])) c.put_byte-a.new.0
+behind_word c = rest (entry c).requires c.put_byte-a.ensures
 
-behind_from : (c : tie.After-put-instant)
+behind_from : (c : tie.After-put_instant-b)
     → let args = (entry c.before.before.before.before).args in
-    TextFits c.put-instant.result (fields (instant args.to.0 ∷ decimal args.p ∷ decimal args.evidence ∷ [])) c.put-instant.new.0
-behind_from c = rest (behind_word c.before.before.before.before) c.put-instant.ensures
+    TextFits c.put_instant-b.result (fields (instant args.to.0 ∷ decimal args.p ∷ decimal args.evidence ∷ [])) c.put_instant-b.new.0
+behind_from c = rest (behind_word c.before.before.before.before) c.put_instant-b.ensures
 
-behind_to : (c : tie.After-put-instant2)
+behind_to : (c : tie.After-put_instant-c)
     → let args = (entry c.before.before.before.before.before.before.before.before).args in
-    TextFits c.put-instant2.result (fields (decimal args.p ∷ decimal args.evidence ∷ [])) c.put-instant2.new.0
-behind_to c = rest (behind_from c.before.before.before.before) c.put-instant2.ensures
+    TextFits c.put_instant-c.result (fields (decimal args.p ∷ decimal args.evidence ∷ [])) c.put_instant-c.new.0
+behind_to c = rest (behind_from c.before.before.before.before) c.put_instant-c.ensures
 
-behind_phase : (c : tie.After-put-number)
+behind_phase : (c : tie.After-put_number-d)
     → let args = (entry c.before.before.before.before.before.before.before.before.before.before.before.before).args in
-    TextFits c.put-number.result (fields (decimal args.evidence ∷ [])) c.put-number.new.0
-behind_phase c = rest (behind_to c.before.before.before.before) c.put-number.ensures
+    TextFits c.put_number-d.result (fields (decimal args.evidence ∷ [])) c.put_number-d.new.0
+behind_phase c = rest (behind_to c.before.before.before.before) c.put_number-d.ensures
 
-behind_all : (c : tie.After-put-number2) → TextFits c.put-number2.result (fields []) c.put-number2.new.0
-behind_all c = rest (behind_phase c.before.before.before.before) c.put-number2.ensures
+behind_all : (c : tie.After-put_number-e) → TextFits c.put_number-e.result (fields []) c.put_number-e.new.0
+behind_all c = rest (behind_phase c.before.before.before.before) c.put_number-e.ensures
 
-put_instant_requires : tie.Need-put-instant-requires
+put_instant_requires : tie.Need-put_instant-b-requires
 put_instant_requires c κs = front _ (behind_word c.before.before.before)
 
-put_instant_requires_2 : tie.Need-put-instant-requires-2
+put_instant_requires_2 : tie.Need-put_instant-c-requires
 put_instant_requires_2 c κs = front _ (behind_from c.before.before.before)
 
-put_number_requires : tie.Need-put-number-requires
+put_number_requires : tie.Need-put_number-d-requires
 put_number_requires c κs = front _ (behind_to c.before.before.before)
 
-put_number_requires_2 : tie.Need-put-number-requires-2
+put_number_requires_2 : tie.Need-put_number-e-requires
 put_number_requires_2 c κs = front _ (behind_phase c.before.before.before)
 
-put_byte_requires_2 : tie.Need-put-byte-requires-2
+put_byte_requires_2 : tie.Need-put_byte-requires
 put_byte_requires_2 c κs = behind_all c.before.before.before
 
 returns : tie.Need-returns
@@ -57,12 +57,12 @@ returns c =
     let at-put-instant2 = at-put-number.before.before.before.before in
     let at-put-instant = at-put-instant2.before.before.before.before in
     let at-put-byte = at-put-instant.before.before.before.before in
-    both (entry at-put-byte).requires at-put-byte.put_byte.ensures
-    (both (behind_word at-put-byte) at-put-instant.put-instant.ensures
-    (both (behind_from at-put-instant) at-put-instant2.put-instant2.ensures
-    (both (behind_to at-put-instant2) at-put-number.put-number.ensures
-    (both (behind_phase at-put-number) at-put-number2.put-number2.ensures
-    at-put-byte2.put-byte2.ensures))))
+    both (entry at-put-byte).requires at-put-byte.put_byte-a.ensures
+    (both (behind_word at-put-byte) at-put-instant.put_instant-b.ensures
+    (both (behind_from at-put-instant) at-put-instant2.put_instant-c.ensures
+    (both (behind_to at-put-instant2) at-put-number.put_number-d.ensures
+    (both (behind_phase at-put-number) at-put-number2.put_number-e.ensures
+    at-put-byte2.put_byte.ensures))))
 
 pub put_phase_spec : {M : Type 1} → statement M
 put_phase_spec =

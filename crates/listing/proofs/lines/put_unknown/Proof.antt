@@ -7,30 +7,30 @@ use Rattle.listing.proofs.lines.put_unknown.Statement.{statement}
 use Rattle.listing.proofs.lines.put_unknown.Tie as tie
 
 -- the entry, from where the word is written
-abbrev entry : tie.After-put-byte → tie.Start
+abbrev entry : tie.After-put_byte-a → tie.Start
 entry c = c.before.before.before
 
 -- behind each part of the line the others fit
-behind_word : (c : tie.After-put-byte)
+behind_word : (c : tie.After-put_byte-a)
     → let args = (entry c).args in
-    TextFits c.put_byte.result (fields (instant args.from.0 ∷ instant args.to.0 ∷ [])) c.put_byte.new.0
-behind_word c = rest (entry c).requires c.put_byte.ensures
+    TextFits c.put_byte-a.result (fields (instant args.from.0 ∷ instant args.to.0 ∷ [])) c.put_byte-a.new.0
+behind_word c = rest (entry c).requires c.put_byte-a.ensures
 
-behind_from : (c : tie.After-put-instant)
+behind_from : (c : tie.After-put_instant-b)
     → let args = (entry c.before.before.before.before).args in
-    TextFits c.put-instant.result (fields (instant args.to.0 ∷ [])) c.put-instant.new.0
-behind_from c = rest (behind_word c.before.before.before.before) c.put-instant.ensures
+    TextFits c.put_instant-b.result (fields (instant args.to.0 ∷ [])) c.put_instant-b.new.0
+behind_from c = rest (behind_word c.before.before.before.before) c.put_instant-b.ensures
 
-behind_all : (c : tie.After-put-instant2) → TextFits c.put-instant2.result (fields []) c.put-instant2.new.0
-behind_all c = rest (behind_from c.before.before.before.before) c.put-instant2.ensures
+behind_all : (c : tie.After-put_instant-c) → TextFits c.put_instant-c.result (fields []) c.put_instant-c.new.0
+behind_all c = rest (behind_from c.before.before.before.before) c.put_instant-c.ensures
 
-put_instant_requires : tie.Need-put-instant-requires
+put_instant_requires : tie.Need-put_instant-b-requires
 put_instant_requires c κs = front _ (behind_word c.before.before.before)
 
-put_instant_requires_2 : tie.Need-put-instant-requires-2
+put_instant_requires_2 : tie.Need-put_instant-c-requires
 put_instant_requires_2 c κs = front _ (behind_from c.before.before.before)
 
-put_byte_requires_2 : tie.Need-put-byte-requires-2
+put_byte_requires_2 : tie.Need-put_byte-requires
 put_byte_requires_2 c κs = behind_all c.before.before.before
 
 returns : tie.Need-returns
@@ -39,10 +39,10 @@ returns c =
     let at-put-instant2 = at-put-byte2.before.before.before.before in
     let at-put-instant = at-put-instant2.before.before.before.before in
     let at-put-byte = at-put-instant.before.before.before.before in
-    both (entry at-put-byte).requires at-put-byte.put_byte.ensures
-    (both (behind_word at-put-byte) at-put-instant.put-instant.ensures
-    (both (behind_from at-put-instant) at-put-instant2.put-instant2.ensures
-    at-put-byte2.put-byte2.ensures))
+    both (entry at-put-byte).requires at-put-byte.put_byte-a.ensures
+    (both (behind_word at-put-byte) at-put-instant.put_instant-b.ensures
+    (both (behind_from at-put-instant) at-put-instant2.put_instant-c.ensures
+    at-put-byte2.put_byte.ensures))
 
 pub put_unknown_spec : {M : Type 1} → statement M
 put_unknown_spec =

@@ -16,8 +16,8 @@ returns c =
     let at-to-utc-at = at-midnight-after.before in
     let args = at-to-utc-at.before.before.before.before.before.args in
     date_by (zone_of args.offset0 args.ats.now args.offsets.now) (governing_rule (map (rule_at args.book.now) args.rules.now)) args.d.0
-    (ap (λ (b : Boundary). b.at.0) at-to-utc-at.to-utc-at.ensures) (ap (λ (b : Boundary). b.at.0) at-midnight-after.midnight-after.ensures)
-    at-in-order.in_order.ensures c.reads-throughout.ensures
+    (ap (λ (b : Boundary). b.at.0) at-to-utc-at.to_utc_at-opening.ensures) (ap (λ (b : Boundary). b.at.0) at-midnight-after.midnight_after-closing.ensures)
+    at-in-order.in_order.ensures c.reads_throughout.ensures
 
 pub is_plain_date_spec : {M : Type 1} → statement M
 is_plain_date_spec = tie.close (tie.spec (λ c κs. search rules) (λ c κs. search rules) (λ c κs. search rules) (λ c κs. search rules) returns)

@@ -14,77 +14,77 @@ use mathlib.Core.Path.{◌≡◌, refl, sym, ap, ◌∙◌}
 use Rattle.plain.proofs.date.rises.Statement.{statement}
 use Rattle.plain.proofs.date.rises.Tie as tie
 
-abbrev invariant-loop : tie.invariant-loop
+abbrev invariant-loop : tie.invariant-loop-i
 invariant-loop book first ats offsets rule d to place n before₀ i₀ before i =
     (i ≤ length (rule_at book rule).points)
     × (rises (taken_at (zone_of first ats offsets) d.0) before₀ to.0 (rule_at book rule).points
     ≡ rises (taken_at (zone_of first ats offsets) d.0) before to.0 (drop i (rule_at book rule).points))
 
-abbrev decreases-loop : tie.decreases-loop
+abbrev decreases-loop : tie.decreases-loop-i
 decreases-loop book first ats offsets rule d to place n before₀ i₀ before i = n - i
 
 -- a need, or a place, at this invariant and measure
-abbrev At : (tie.invariant-loop → tie.decreases-loop → Type 0) → Type 0
+abbrev At : (tie.invariant-loop-i → tie.decreases-loop-i → Type 0) → Type 0
 At it = it invariant-loop decreases-loop
 
 -- the entry, from a turn of the loop; the rule's points, and when each is on the date
-abbrev entry : At tie.At-loop → At tie.Start
+abbrev entry : At tie.At-loop-i → At tie.Start
 entry c = c.before.before.before.before.before
 
-abbrev points_in : At tie.At-loop → List Point
+abbrev points_in : At tie.At-loop-i → List Point
 points_in c = (rule_at (entry c).args.book.now (entry c).args.rule).points
 
-abbrev when : At tie.At-loop → ℕ → ℕ
+abbrev when : At tie.At-loop-i → ℕ → ℕ
 when c = let args = (entry c).args in taken_at (zone_of args.offset0 args.ats.now args.offsets.now) args.d.0
 
 -- a point is left
-more : (c : At tie.In-loop) → c.before.loop.i < length (points_in c.before)
-more c = omega (arith, c.before.before.rule-points.ensures.0, c.loop-test.true)
+more : (c : At tie.In-loop-i) → c.before.loop-i.i < length (points_in c.before)
+more c = omega (arith, c.before.before.rule_points-n.ensures.0, c.loop-i-test.true)
 
 -- it stands where the code finds it
-found : (c : At tie.After-to-utc-at)
+found : (c : At tie.After-to_utc_at-own)
     → let l = c.before.before.before in
-    c.to-utc-at.result.at.0 ≡ when l (get_or (points_in l) l.loop.i midnight).time
+    c.to_utc_at-own.result.at-1.0 ≡ when l (get_or (points_in l) l.loop-i.i midnight).time
 found c =
     let args = (entry c.before.before.before).args in
-    ap (λ (b : Boundary). b.at.0)
-    (c.to-utc-at.ensures ∙ ap (λ (x : ℕ). boundary_at (zone_of args.offset0 args.ats.now args.offsets.now) args.d.0 x Exact) c.before.point-time.ensures.0)
+    ap (λ (b : Boundary). b.at-1.0)
+    (c.to_utc_at-own.ensures ∙ ap (λ (x : ℕ). boundary_at (zone_of args.offset0 args.ats.now args.offsets.now) args.d.0 x Exact) c.before.point_time.ensures.0)
 
-rule_points_requires : At tie.Need-rule-points-requires
+rule_points_requires : At tie.Need-rule_points-n-requires
 rule_points_requires c κs = c.before.before.before.requires.1
 
-loop_holds : At tie.Need-loop-init
+loop_holds : At tie.Need-loop-i-init
 loop_holds c = (omega arith, refl)
 
-point_time_requires : At tie.Need-point-time-requires
+point_time_requires : At tie.Need-point_time-requires
 point_time_requires c κs = ((entry c.before).pre.1, more c)
 
-to_utc_at_requires : At tie.Need-to-utc-at-requires
+to_utc_at_requires : At tie.Need-to_utc_at-own-requires
 to_utc_at_requires c κs = (entry c.before.before).pre.0
 
-returns : At tie.Need-returns
+returns : At tie.Need-returns-then-at-before
 returns c =
     let at-to-utc-at = c.before.before.before in
     let l = at-to-utc-at.before.before in
-    sym (l.before.loop.invariant.1 ∙ rises_stops (when l.before) _ _ _ (points_in l.before) (more l) (found at-to-utc-at) c.if1.true)
+    sym (l.before.loop-i.invariant.1 ∙ rises_stops (when l.before) _ _ _ (points_in l.before) (more l) (found at-to-utc-at) c.if-at-before.true)
 
-add_i : At tie.Need-overflow-add-i
-add_i c = let l = c.before.before.before.before.before in omega (arith, l.before.before.rule-points.ensures.2, l.loop-test.true)
+add_i : At tie.Need-overflow_add-i
+add_i c = let l = c.before.before.before.before.before in omega (arith, l.before.before.rule_points-n.ensures.2, l.loop-i-test.true)
 
-loop_less : At tie.Need-loop-smaller
-loop_less c = omega (arith, c.before.before.before.before.before.loop-test.true)
+loop_less : At tie.Need-loop-i-smaller
+loop_less c = omega (arith, c.before.before.before.before.before.loop-i-test.true)
 
-loop_again : At tie.Need-loop-preserved
+loop_again : At tie.Need-loop-i-preserved
 loop_again c =
     let at-to-utc-at = c.before.before.before in
     let l = at-to-utc-at.before.before in
-    (omega (arith, more l), l.before.loop.invariant.1 ∙ rises_goes (when l.before) _ _ _ (points_in l.before) (more l) (found at-to-utc-at) c.if1.false)
+    (omega (arith, more l), l.before.loop-i.invariant.1 ∙ rises_goes (when l.before) _ _ _ (points_in l.before) (more l) (found at-to-utc-at) c.if-at-before.false)
 
-returns_2 : At tie.Need-returns-2
+returns_2 : At tie.Need-returns
 returns_2 c =
     let at-loop-test = c.before in
     let l = at-loop-test.before in
-    sym (l.loop.invariant.1 ∙ rises_end (when l) _ _ _ (points_in l) (omega (arith, l.before.rule-points.ensures.0, at-loop-test.loop-test.false)) l.loop.invariant.0)
+    sym (l.loop-i.invariant.1 ∙ rises_end (when l) _ _ _ (points_in l) (omega (arith, l.before.rule_points-n.ensures.0, at-loop-test.loop-i-test.false)) l.loop-i.invariant.0)
 
 pub rises_spec : {M : Type 1} → statement M
 rises_spec =

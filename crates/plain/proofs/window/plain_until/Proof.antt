@@ -15,7 +15,7 @@ use Rattle.plain.proofs.window.plain_until.Statement.{statement}
 use Rattle.plain.proofs.window.plain_until.Tie as tie
 
 -- the entry, from where the first date near which the clock changes is known; its zone and its rules
-abbrev entry : tie.After-steady-until → tie.Start
+abbrev entry : tie.After-steady_until-until → tie.Start
 entry c = c.before.before.before.before.before
 
 abbrev zone_in : tie.Start → Zone
@@ -25,43 +25,43 @@ abbrev rules_in : tie.Start → ℕ → Option Rule
 rules_in c = governing_rule (map (rule_at c.args.book.now) c.args.rules.now)
 
 -- the dates before it
-steady : (c : tie.After-steady-until) (r : ℕ)
-    → let s = entry c in s.args.d.0 < r → r ≤ s.args.last.0 → r ≤ c.steady-until.result.0
+steady : (c : tie.After-steady_until-until) (r : ℕ)
+    → let s = entry c in s.args.d.0 < r → r ≤ s.args.last.0 → r ≤ c.steady_until-until.result.0
     → PlainUntil (venue_by (zone_in s) (rules_in s)) s.args.d.0 s.args.last.0 r
 steady c r h i j =
     let s = entry c in
     record {
       most = i;
       run = λ e a b. until_plain s.args.book.now s.args.offset0 s.args.ats.now s.args.offsets.now s.args.rules.now s.pre.0 s.pre.1
-          s.args.d.0 e a (omega (arith, b, j, c.steady-until.ensures));
+          s.args.d.0 e a (omega (arith, b, j, c.steady_until-until.ensures));
       stops = λ l. absurd (omega (arith, h, l));
     }
 
-steady_until_requires : tie.Need-steady-until-requires
+steady_until_requires : tie.Need-steady_until-until-requires
 steady_until_requires c κs = c.before.before.before.before.requires.0.spaced
 
-returns : tie.Need-returns
+returns : tie.Need-returns-then-last-until
 returns c =
     let at-steady-until = c.before.before.before in
-    steady at-steady-until _ (entry at-steady-until).requires.2 (omega arith) (omega (arith, c.if1.true))
+    steady at-steady-until _ (entry at-steady-until).requires.2 (omega arith) (omega (arith, c.if-last-until.true))
 
-returns_2 : tie.Need-returns-2
+returns_2 : tie.Need-returns-then-d-until
 returns_2 c =
     let at-if1 = c.before.before.before in
     let at-steady-until = at-if1.before.before.before in
-    steady at-steady-until _ c.if2.true at-if1.if1.false (omega arith)
+    steady at-steady-until _ c.if-d-until.true at-if1.if-last-until.false (omega arith)
 
-returns_3 : tie.Need-returns-3
+returns_3 : tie.Need-returns-then-is_plain_date
 returns_3 c =
     let at-is-plain-date = c.before.before in
     let s = entry at-is-plain-date.before.before.before.before.before.before.before in
-    look_plain (zone_in s) (rules_in s) s.args.d.0 s.args.last.0 s.pre.2 (sym at-is-plain-date.is-plain-date.ensures ∙ c.before.if3.true)
+    look_plain (zone_in s) (rules_in s) s.args.d.0 s.args.last.0 s.pre.2 (sym at-is-plain-date.is_plain_date.ensures ∙ c.before.if-is_plain_date.true)
 
-returns_4 : tie.Need-returns-4
+returns_4 : tie.Need-returns
 returns_4 c =
     let at-is-plain-date = c.before in
     let s = entry at-is-plain-date.before.before.before.before.before.before.before in
-    look_not (zone_in s) (rules_in s) s.args.d.0 s.args.last.0 s.pre.2 (sym at-is-plain-date.is-plain-date.ensures ∙ c.if3.false)
+    look_not (zone_in s) (rules_in s) s.args.d.0 s.args.last.0 s.pre.2 (sym at-is-plain-date.is_plain_date.ensures ∙ c.if-is_plain_date.false)
 
 pub plain_until_spec : {M : Type 1} → statement M
 plain_until_spec =

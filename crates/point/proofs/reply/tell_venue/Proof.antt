@@ -13,43 +13,43 @@ use borrow.Author.Rules.{rules}
 use Rattle.point.proofs.reply.tell_venue.Statement.{statement}
 use Rattle.point.proofs.reply.tell_venue.Tie as tie
 
-abbrev start : tie.After-resolve-phase → tie.Start
+abbrev start : tie.After-resolve_phase → tie.Start
 start c = c.before.before.before.before.before.before.before.before.before
 
 -- what is told of what is held at the instant
 abbrev told_in : tie.Start → Option Held → List ℕ
 told_in c o =
     let values = values_at c.args.book.now c.args.h c.args.ats.now c.args.offsets.now c.args.rules.now c.args.events.now in
-    encode_all (told_held values (Between c.args.h.start c.args.h.end) c.args.t.0 o)
+    encode_all (told_held values (Between c.args.h.start-1 c.args.h.end-1) c.args.t.0 o)
 
-resolve_phase_requires : tie.Need-resolve-phase-requires
+resolve_phase_requires : tie.Need-resolve_phase-requires
 resolve_phase_requires c κs =
     let pre = c.before.before.before.before.before.before.before.before.requires in
     (pre.zone, pre.rules_listed)
 
-tell_known_requires : tie.Need-tell-known-requires
+tell_known_requires : tie.Need-tell_known-requires
 tell_known_requires c κs =
     let at_g = c.before.before in
     let at-resolve-phase = at_g.before.before in
     let pre = (start at-resolve-phase).requires in
-    let placed = subst (ChosenAt (start at-resolve-phase).args.book.now _) at_g.g.given.1 at-resolve-phase.resolve-phase.ensures.1 in
+    let placed = subst (ChosenAt (start at-resolve-phase).args.book.now _) at_g.g-1.given.1 at-resolve-phase.resolve_phase.ensures.1 in
     (pre.zone, pre.events_listed, pre.few, placed.0)
 
-returns : tie.Need-returns
+returns : tie.Need-returns-in-Missing
 returns c =
     let at-tell-missing = c.before.before in
     let at-enum-told = at-tell-missing.before.before in
     let at-resolve-phase = at-enum-told.before.before in
-    let found = ap (held (start at-resolve-phase).args.book.now) (sym at-enum-told.enum_told.given.1) ∙ at-resolve-phase.resolve-phase.ensures.0 in
-    lent_same at-tell-missing.tell-missing.ensures refl (one_form _ ∙ ap (told_in (start at-resolve-phase)) found)
+    let found = ap (held (start at-resolve-phase).args.book.now) (sym at-enum-told.enum_told-1.given.1) ∙ at-resolve-phase.resolve_phase.ensures.0 in
+    lent_same at-tell-missing.tell_missing.ensures refl (one_form _ ∙ ap (told_in (start at-resolve-phase)) found)
 
-returns_2 : tie.Need-returns-2
+returns_2 : tie.Need-returns-in-Whole
 returns_2 c =
     let at-tell-known = c.before.before in
     let at_g = at-tell-known.before.before.before in
     let at-resolve-phase = at_g.before.before in
-    let found = ap (held (start at-resolve-phase).args.book.now) (sym at_g.g.given.1) ∙ at-resolve-phase.resolve-phase.ensures.0 in
-    lent_same at-tell-known.tell-known.ensures refl (ap (told_in (start at-resolve-phase)) found)
+    let found = ap (held (start at-resolve-phase).args.book.now) (sym at_g.g-1.given.1) ∙ at-resolve-phase.resolve_phase.ensures.0 in
+    lent_same at-tell-known.tell_known.ensures refl (ap (told_in (start at-resolve-phase)) found)
 
 pub tell_venue_spec : {M : Type 1} → statement M
 tell_venue_spec =

@@ -8,28 +8,28 @@ use Rattle.query.proofs.judge.asked_at.Statement.{statement}
 use Rattle.query.proofs.judge.asked_at.Tie as tie
 
 -- the number as it was passed, placed
-placed_at : (c : tie.After-place) → c.place.result.0 ≡ placed w64 c.before.args.at
-placed_at c = c.place.ensures ∙ ap (placed w64) (to_z-of_z w64 c.before.args.at c.before.ranges.at)
+placed_at : (c : tie.After-place-p) → c.place-p.result.0 ≡ placed w64 c.before.args.at
+placed_at c = c.place-p.ensures ∙ ap (placed w64) (to_z-of_z w64 c.before.args.at c.before.ranges.at)
 
-returns : tie.Need-returns
+returns : tie.Need-returns-then-p-lt-INSTANTS_LOW
 returns c =
     let at_place = c.before.before in
     let at-start = at_place.before in
-    too_early at-start.args.at at-start.ranges.at _ (placed_at at_place) c.if1.true
+    too_early at-start.args.at at-start.ranges.at _ (placed_at at_place) c.if-p-lt-INSTANTS_LOW.true
 
-returns_2 : tie.Need-returns-2
+returns_2 : tie.Need-returns-then-p-gt-INSTANTS_HIGH
 returns_2 c =
     let at_place = c.before.before.before.before in
     let at-start = at_place.before in
-    too_late at-start.args.at at-start.ranges.at _ (placed_at at_place) c.if2.true
+    too_late at-start.args.at at-start.ranges.at _ (placed_at at_place) c.if-p-gt-INSTANTS_HIGH.true
 
-returns_3 : tie.Need-returns-3
+returns_3 : tie.Need-returns
 returns_3 c =
     let at-if2 = c.before in
     let at-if1 = at-if2.before.before in
     let at_place = at-if1.before.before in
     let at-start = at_place.before in
-    in_range at-start.args.at at-start.ranges.at _ (placed_at at_place) at-if1.if1.false at-if2.if2.false c.instant-of.ensures
+    in_range at-start.args.at at-start.ranges.at _ (placed_at at_place) at-if1.if-p-lt-INSTANTS_LOW.false at-if2.if-p-gt-INSTANTS_HIGH.false c.instant_of.ensures
 
 pub asked_at_spec : {M : Type 1} → statement M
 asked_at_spec = tie.close (tie.spec (λ c κs. search rules) returns returns_2 (λ c κs. search rules) returns_3)

@@ -13,18 +13,18 @@ use borrow.Author.Rules.{rules}
 use Rattle.rows.proofs.judge.good_phase.Statement.{statement}
 use Rattle.rows.proofs.judge.good_phase.Tie as tie
 
-returns : tie.Need-returns
+returns : tie.Need-returns-then-not-framed
 returns c =
     let args = c.before.before.before.args in
-    phase_unframed args.bytes.now args.at (sym c.before.framed.ensures ∙ not-true _ c.if1.true)
+    phase_unframed args.bytes.now args.at (sym c.before.framed.ensures ∙ not-true _ c.if-not-framed.true)
 
-stands : (c : tie.Else1) → let args = c.before.before.before.args in framed phase_kind phase_length args.bytes.now args.at ≡ true
-stands c = sym c.before.framed.ensures ∙ not-false _ c.if1.false
+stands : (c : tie.Else-not-framed) → let args = c.before.before.before.args in framed phase_kind phase_length args.bytes.now args.at ≡ true
+stands c = sym c.before.framed.ensures ∙ not-false _ c.if-not-framed.false
 
-whole : (c : tie.Else1) → let args = c.before.before.before.args in args.at + size.width + phase_length ≤ length args.bytes.now
+whole : (c : tie.Else-not-framed) → let args = c.before.before.before.args in args.at + size.width + phase_length ≤ length args.bytes.now
 whole c = let args = c.before.before.before.args in (framed_holds args.bytes.now args.at phase_kind phase_length (stands c)).0
 
-returns_2 : tie.Need-returns-2
+returns_2 : tie.Need-returns
 returns_2 c =
     let at-start = c.before in
     let at-whole = at-start.before in
@@ -35,8 +35,8 @@ returns_2 c =
     let at-if1 = at-phase.before in
     let args = at-if1.before.before.before.args in
     phase_by args.bytes.now args.at (stands at-if1) _ _ _ _ _ _ _
-    at-phase.get1.ensures at_code.get12.ensures at_first.get13.ensures at_last.get14.ensures at-whole.get15.ensures
-    at-start.signed8.ensures c.signed82.ensures
+    at-phase.get1-phase.ensures at_code.get1-code.ensures at_first.get1-first.ensures at_last.get1-last.ensures at-whole.get1-whole.ensures
+    at-start.signed8-start.ensures c.signed8-end.ensures
 
 pub good_phase_spec : {M : Type 1} → statement M
 good_phase_spec =

@@ -12,75 +12,75 @@ use Rattle.rows.proofs.Turns.{untrue}
 use Rattle.rows.proofs.judge.good_row.Statement.{statement}
 use Rattle.rows.proofs.judge.good_row.Tie as tie
 
-abbrev invariant-loop : tie.invariant-loop
+abbrev invariant-loop : tie.invariant-loop-g
 invariant-loop row at₀ least₀ waiting₀ at least waiting = Going false row (good_row row) at least waiting
 
-abbrev decreases-loop : tie.decreases-loop
+abbrev decreases-loop : tie.decreases-loop-g
 decreases-loop row at₀ least₀ waiting₀ at least waiting = length row - at
 
 -- a need, or a place, at this invariant and measure
-abbrev At : (tie.invariant-loop → tie.decreases-loop → Type 0) → Type 0
+abbrev At : (tie.invariant-loop-g → tie.decreases-loop-g → Type 0) → Type 0
 At it = it invariant-loop decreases-loop
 
 -- what follows from what stands at the place
-tells : (c : At tie.After-stands-at) {x : Stands} → c.stands_at.result ≡ x
-    → let now = c.before.loop in
+tells : (c : At tie.After-stands_at) {x : Stands} → c.stands_at.result ≡ x
+    → let now = c.before.loop-g in
     Tells false c.before.before.before.args.row.now now.at now.least now.waiting x
-tells c e = told _ _ _ _ _ c.before.loop.invariant.inside (sym c.stands_at.ensures ∙ e)
+tells c e = told _ _ _ _ _ c.before.loop-g.invariant.inside (sym c.stands_at.ensures ∙ e)
 
-loop_holds : At tie.Need-loop-init
+loop_holds : At tie.Need-loop-g-init
 loop_holds c = record { same = row_begin _; inside = omega arith }
 
-returns : At tie.Need-returns
+returns : At tie.Need-returns-in-Bad
 returns c =
     let at-stands-at = c.before.before in
-    sym (at-stands-at.before.loop.invariant.same ∙ tells at-stands-at c.enum_told.given.1)
+    sym (at-stands-at.before.loop-g.invariant.same ∙ tells at-stands-at c.enum_told-1.given.1)
 
-returns_2 : At tie.Need-returns-2
+returns_2 : At tie.Need-returns-in-End
 returns_2 c =
     let at-stands-at = c.before.before in
-    sym (at-stands-at.before.loop.invariant.same ∙ (tells at-stands-at c.enum-told2.given.1).good)
+    sym (at-stands-at.before.loop-g.invariant.same ∙ (tells at-stands-at c.enum_told-in-End-1.given.1).good)
 
-returns_3 : At tie.Need-returns-3
-returns_3 c = absurd (untrue (tells c.before.before c.enum-told3.given.1).allowed)
+returns_3 : At tie.Need-returns-in-Mark
+returns_3 c = absurd (untrue (tells c.before.before c.enum_told-in-Mark-1.given.1).allowed)
 
-read_segment_requires : At tie.Need-read-segment-requires
-read_segment_requires c κs = (tells c.before.before c.enum-told4.given.1).segment
+read_segment_requires : At tie.Need-read_segment-g-requires
+read_segment_requires c κs = (tells c.before.before c.enum_told-in-Segment-1.given.1).segment
 
-loop_less : At tie.Need-loop-smaller
+loop_less : At tie.Need-loop-g-smaller-in-Segment
 loop_less c =
     let at-read-segment = c.before in
     let at-enum-told4 = at-read-segment.before in
     let at-stands-at = at-enum-told4.before.before in
-    segment_after at-stands-at.before.loop.invariant (tells at-stands-at at-enum-told4.enum-told4.given.1) at-read-segment.read-segment.ensures
+    segment_after at-stands-at.before.loop-g.invariant (tells at-stands-at at-enum-told4.enum_told-in-Segment-1.given.1) at-read-segment.read_segment-g.ensures
 
-loop_again : At tie.Need-loop-preserved
+loop_again : At tie.Need-loop-g-preserved-in-Segment
 loop_again c =
     let at-read-segment = c.before in
     let at-enum-told4 = at-read-segment.before in
     let at-stands-at = at-enum-told4.before.before in
-    segment_going at-stands-at.before.loop.invariant (tells at-stands-at at-enum-told4.enum-told4.given.1) at-read-segment.read-segment.ensures
+    segment_going at-stands-at.before.loop-g.invariant (tells at-stands-at at-enum-told4.enum_told-in-Segment-1.given.1) at-read-segment.read_segment-g.ensures
 
-add_at : At tie.Need-overflow-add-at
+add_at : At tie.Need-overflow_add-at
 add_at c =
     let at-stands-at = c.before.before in
     let at-shared-slice-known = at-stands-at.before.before in
     omega (
       arith,
-      (tells at-stands-at c.enum-told5.given.1).inside,
-      at-shared-slice-known.shared-slice-known.given (length at-shared-slice-known.before.args.row.now),
+      (tells at-stands-at c.enum_told-in-Event-1.given.1).inside,
+      at-shared-slice-known.shared_slice_known-1.given (length at-shared-slice-known.before.args.row.now),
     )
 
-sub_waiting : At tie.Need-overflow-sub-waiting
-sub_waiting c = omega (arith, (tells c.before.before c.enum-told5.given.1).some)
+sub_waiting : At tie.Need-overflow_sub-waiting
+sub_waiting c = omega (arith, (tells c.before.before c.enum_told-in-Event-1.given.1).some)
 
-loop_less_2 : At tie.Need-loop-smaller-2
-loop_less_2 c = omega (arith, (tells c.before.before c.enum-told5.given.1).inside)
+loop_less_2 : At tie.Need-loop-g-smaller
+loop_less_2 c = omega (arith, (tells c.before.before c.enum_told-in-Event-1.given.1).inside)
 
-loop_again_2 : At tie.Need-loop-preserved-2
+loop_again_2 : At tie.Need-loop-g-preserved
 loop_again_2 c =
     let at-stands-at = c.before.before in
-    event_going at-stands-at.before.loop.invariant (tells at-stands-at c.enum-told5.given.1)
+    event_going at-stands-at.before.loop-g.invariant (tells at-stands-at c.enum_told-in-Event-1.given.1)
 
 pub good_row_spec : {M : Type 1} → statement M
 good_row_spec =

@@ -29,95 +29,95 @@ abbrev entry : At tie.At-pieces → At tie.Start
 entry c = c.before.before.before.before.before.before.before.before.before
 
 -- the piece at hand, from where its phase is read
-abbrev piece : At tie.After-point-phase → At tie.After-q
+abbrev piece : At tie.After-point_phase-phase → At tie.In-Next-2
 piece c = c.before.before.before.before.before
 
 -- it comes first
-comes_at : (c : At tie.After-q)
+comes_at : (c : At tie.In-Next-2)
     → let at-pieces = c.before.before.before.before in
     let args = (entry at-pieces).args in
-    ComesFirst args.book.now args.offset0 args.ats.now args.offsets.now args.rules.now args.hi.0 at-pieces.pieces.w c.q.given.0.0 at-pieces.pieces.edges
+    ComesFirst args.book.now args.offset0 args.ats.now args.offsets.now args.rules.now args.hi.0 at-pieces.pieces.w c.q-1.given.0.0 at-pieces.pieces.edges-1
 comes_at c =
     let at-next-piece = c.before.before in
     let at-pieces = at-next-piece.before.before in
-    come _ _ _ (entry at-pieces).requires.0 _ _ at-pieces.pieces.invariant.0 at-next-piece.next-piece.ensures _ c.q.given.1
+    come _ _ _ (entry at-pieces).requires.0 _ _ at-pieces.pieces.invariant.0 at-next-piece.next_piece.ensures _ c.q-1.given.1
 
-begin_requires : At tie.Need-begin-requires
+begin_requires : At tie.Need-begin-opening-requires
 begin_requires c κs =
     let pre = c.before.before.before.before.before.before.before.requires in
     (pre.0, pre.1, keeps_blank _)
 
 pieces_holds : At tie.Need-pieces-init
-pieces_holds c = let begun = c.begin.ensures in (begun.0.stands, walked_none _ _ _ _ _ _, begun.1)
+pieces_holds c = let begun = c.begin-opening.ensures in (begun.0.stands, walked_none _ _ _ _ _ _, begun.1)
 
-next_piece_requires : At tie.Need-next-piece-requires
+next_piece_requires : At tie.Need-next_piece-requires
 next_piece_requires c κs = stands_held c.before.pieces.invariant.0
 
-point_phase_requires : At tie.Need-point-phase-requires
+point_phase_requires : At tie.Need-point_phase-phase-requires
 point_phase_requires c κs = let fits = (comes_at c.before.before.before.before).fits in (fits.listed, fits.point)
 
-stretch_requires : At tie.Need-stretch-requires
+stretch_requires : At tie.Need-stretch-place-requires
 stretch_requires c κs =
     let at-point-phase = c.before.before.before in
     let at-q = piece at-point-phase in
     let at-pieces = at-q.before.before.before.before in
-    walked_coming _ _ _ _ _ _ at-pieces.pieces.inv.1 (comes_at at-q) at-point-phase.point-phase.ensures at-pieces.before.begin.ensures.0
+    walked_coming _ _ _ _ _ _ at-pieces.pieces.inv.1 (comes_at at-q) at-point-phase.point_phase-phase.ensures at-pieces.before.begin-opening.ensures.0
     (entry at-pieces).pre.2
 
-after_piece_requires : At tie.Need-after-piece-requires
+after_piece_requires : At tie.Need-after_piece-w-requires
 after_piece_requires c κs =
     let fits = (comes_at (piece c.before.before.before.before.before.before)).fits in
     omega (arith, fits.point, (good_rule _ _ fits.listed).few)
 
-pieces_less : At tie.Need-pieces-smaller
+pieces_less : At tie.Need-pieces-smaller-in-Next
 pieces_less c =
-    come_fewer (comes_at (piece c.before.before.before.before.before.before.before)) c.after-piece.ensures
+    come_fewer (comes_at (piece c.before.before.before.before.before.before.before)) c.after_piece-w.ensures
 
-pieces_again : At tie.Need-pieces-preserved
+pieces_again : At tie.Need-pieces-preserved-in-Next
 pieces_again c =
     let at-stretch = c.before.before.before in
     let at-point-phase = at-stretch.before.before.before.before in
     let at-q = piece at-point-phase in
     let inv = at-q.before.before.before.before.pieces.inv in (
-      stands_on c.after-piece.ensures (comes_at at-q).stands,
-      walked_next _ _ _ _ _ _ inv.1 (comes_at at-q) at-point-phase.point-phase.ensures c.after-piece.ensures at-stretch.stretch.ensures,
+      stands_on c.after_piece-w.ensures (comes_at at-q).stands,
+      walked_next _ _ _ _ _ _ inv.1 (comes_at at-q) at-point-phase.point_phase-phase.ensures c.after_piece-w.ensures at-stretch.stretch-place.ensures,
       inv.2,
     )
 
-next_turn_requires : At tie.Need-next-turn-requires
+next_turn_requires : At tie.Need-next_turn-requires
 next_turn_requires c κs =
     let at-enum-told = c.before.before in
     let at-next-piece = at-enum-told.before.before in
     let at-pieces = at-next-piece.before.before in
     let pre = (entry at-pieces).requires in
-    (pre.0, pre.1, at-pieces.pieces.invariant.2, shown _ _ _ pre.0 _ _ at-pieces.pieces.invariant.0 at-next-piece.next-piece.ensures at-enum-told.enum_told.given.1)
+    (pre.0, pre.1, at-pieces.pieces.invariant.2, shown _ _ _ pre.0 _ _ at-pieces.pieces.invariant.0 at-next-piece.next_piece.ensures at-enum-told.enum_told-1.given.1)
 
-pieces_less_2 : At tie.Need-pieces-smaller-2
+pieces_less_2 : At tie.Need-pieces-smaller
 pieces_less_2 c =
     let at_next = c.before in
     let at-next-turn = at_next.before.before in
     let at-pieces = at-next-turn.before.before.before.before.before.before.before in
-    turn_fewer (turned _ _ _ _ _ _ at-pieces.pieces.invariant.1 _ _ at-next-turn.next-turn.ensures.0 at_next.next.given.1)
+    turn_fewer (turned _ _ _ _ _ _ at-pieces.pieces.invariant.1 _ _ at-next-turn.next_turn.ensures.0 at_next.next-1.given.1)
 
-pieces_again_2 : At tie.Need-pieces-preserved-2
+pieces_again_2 : At tie.Need-pieces-preserved
 pieces_again_2 c =
     let at_next = c.before in
     let at-next-turn = at_next.before.before in
-    let told = at-next-turn.next-turn.ensures in
+    let told = at-next-turn.next_turn.ensures in
     let counted = at-next-turn.before.before.before.before.before.before.before.pieces.invariant.1 in (
-      (turned _ _ _ _ _ _ counted _ _ told.0 at_next.next.given.1).stands,
-      turn_walked _ _ _ _ _ _ counted _ _ told.0 at_next.next.given.1,
+      (turned _ _ _ _ _ _ counted _ _ told.0 at_next.next-1.given.1).stands,
+      turn_walked _ _ _ _ _ _ counted _ _ told.0 at_next.next-1.given.1,
       told.1,
     )
 
-same_length : At tie.Need-same-length
-same_length c = c.before.before.before.before.before.before.before.before.before.pieces.invariant.1.kept
+same_length : At tie.Need-shape_of-out
+same_length c = c.before.before.before.before.before.before.before.before.before.pieces.invariant.1.kept-1
 
 returns : At tie.Need-returns
 returns c =
     let at-next-turn = c.before.before in
     let at-pieces = at-next-turn.before.before.before.before.before.before.before in
-    walk_counted _ _ _ _ _ _ at-pieces.pieces.invariant.1 _ _ at-next-turn.next-turn.ensures.0 c.enum-told2.given.1 at-pieces.before.begin.ensures.0
+    walk_counted _ _ _ _ _ _ at-pieces.pieces.invariant.1 _ _ at-next-turn.next_turn.ensures.0 c.enum_told-in-Done-next_turn-1.given.1 at-pieces.before.begin-opening.ensures.0
 
 pub count_walk_spec : {M : Type 1} → statement M
 count_walk_spec =

@@ -9,13 +9,13 @@ returns : tie.Need-returns
 returns c =
     let at-renew = c.before.before.before.before in
     let at-row-end = at-renew.before.before.before in
-    let ends = at-row-end.row-end.ensures in
+    let ends = at-row-end.row_end-next.ensures in
     record {
       begins = refl;
       ends = ends;
       placed = refl;
       fresh_row = at-renew.renew.ensures ∙ ap (λ (n : ℕ). fresh (n - at-row-end.before.args.start.0)) ends;
-      fresh_whole = c.renew2.ensures;
+      fresh_whole = c.renew-2.ensures;
     }
 
 pub first_row_spec : {M : Type 1} → statement M

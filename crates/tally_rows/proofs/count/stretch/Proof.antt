@@ -19,18 +19,18 @@ At it = it invariant-rows decreases-rows
 abbrev entry : At tie.At-rows → At tie.Start
 entry c = c.before.before.before.before.before.before.before
 
-abbrev counts : At tie.Else1 → At tie.After-shift2
+abbrev counts : At tie.Else-to-b → At tie.After-shift-in-rows
 counts c = c.before.before.before
 
 -- another row begins
-turns : (c : At tie.Else1)
+turns : (c : At tie.Else-to-b)
     → let at_rows = (counts c).before.before.before in
-    (at_rows.rows.b.0 < (entry at_rows).args.end.0) × (at_rows.rows.b.0 < row_end (entry at_rows).args.end.0 at_rows.rows.b.0)
+    (at_rows.rows.b-1.0 < (entry at_rows).args.end.0) × (at_rows.rows.b-1.0 < row_end (entry at_rows).args.end.0 at_rows.rows.b-1.0)
 turns c =
     let at-shift2 = counts c in
     let at-part2 = at-shift2.before in
     let at_rows = at-part2.before.before in
-    coming_turn (entry at_rows).pre at_rows.rows.inv at-part2.part2.ensures at-shift2.shift2.ensures (omega (arith, c.if1.false))
+    coming_turn (entry at_rows).pre at_rows.rows.inv at-part2.part-in-rows.ensures at-shift2.shift-in-rows.ensures (omega (arith, c.if-to-b.false))
 
 -- an instant is a number of 64 bits
 small : (c : At tie.Start) → c.args.end.0 < 2 ^ 64
@@ -39,28 +39,28 @@ small c = let h = c.well-formed.1.1.1.0 in omega (arith, h)
 shift_requires : At tie.Need-shift-requires
 shift_requires c κs = let at-start = c.before.before.before in coming_whole at-start.requires c.part.ensures (small at-start)
 
-shift_requires_2 : At tie.Need-shift-requires-2
+shift_requires_2 : At tie.Need-shift-requires-in-rows
 shift_requires_2 c κs =
     let at_rows = c.before.before in
-    coming_row (entry at_rows).requires at_rows.rows.invariant c.part2.ensures (small (entry at_rows))
+    coming_row (entry at_rows).requires at_rows.rows.invariant c.part-in-rows.ensures (small (entry at_rows))
 
-put_day_requires : At tie.Need-put-day-requires
+put_day_requires : At tie.Need-put_day-at-requires
 put_day_requires c κs =
     let at-if1 = c.before.before.before in
     let at-shift2 = counts at-if1 in
     let at-part2 = at-shift2.before in
     let at_rows = at-part2.before.before in
-    coming_room (entry at_rows).pre at_rows.rows.inv at-part2.part2.ensures at-shift2.shift2.ensures (omega (arith, at-if1.if1.false))
+    coming_room (entry at_rows).pre at_rows.rows.inv at-part2.part-in-rows.ensures at-shift2.shift-in-rows.ensures (omega (arith, at-if1.if-to-b.false))
 
-sub_renew : At tie.Need-overflow-sub-renew
+sub_renew : At tie.Need-overflow_sub-next
 sub_renew c =
     let at-row-end = c.before.before in
-    omega (arith, turns at-row-end.before.before.before.before.before.before.before, at-row-end.row-end.ensures)
+    omega (arith, turns at-row-end.before.before.before.before.before.before.before, at-row-end.row_end-next.ensures)
 
 rows_less : At tie.Need-rows-smaller
 rows_less c =
     let at-row-end = c.before.before.before in
-    omega (arith, turns at-row-end.before.before.before.before.before.before.before, at-row-end.row-end.ensures)
+    omega (arith, turns at-row-end.before.before.before.before.before.before.before, at-row-end.row_end-next.ensures)
 
 rows_again : At tie.Need-rows-preserved
 rows_again c =
@@ -69,10 +69,10 @@ rows_again c =
     let at-if1 = at-put-day.before.before.before.before in
     let at-shift2 = counts at-if1 in
     let at-part2 = at-shift2.before in
-    rolling_next at-part2.before.before.rows.inv at-part2.part2.ensures at-shift2.shift2.ensures (omega (arith, at-if1.if1.false))
-    at-put-day.put-day.ensures at-row-end.row-end.ensures c.renew.ensures
+    rolling_next at-part2.before.before.rows.inv at-part2.part-in-rows.ensures at-shift2.shift-in-rows.ensures (omega (arith, at-if1.if-to-b.false))
+    at-put-day.put_day-at.ensures at-row-end.row_end-next.ensures c.renew.ensures
 
-same_length : At tie.Need-same-length
+same_length : At tie.Need-shape_of-out
 same_length c = c.before.before.before.before.before.before.rows.invariant.kept
 
 returns : At tie.Need-returns
@@ -81,7 +81,7 @@ returns c =
     let at-part2 = at-shift2.before in
     let at_rows = at-part2.before.before in
     let at-shift = at_rows.before.before.before in
-    counted at_rows.rows.invariant at-part2.part2.ensures at-shift2.shift2.ensures (omega (arith, c.if1.true))
+    counted at_rows.rows.invariant at-part2.part-in-rows.ensures at-shift2.shift-in-rows.ensures (omega (arith, c.if-to-b.true))
     at-shift.before.part.ensures at-shift.shift.ensures
 
 pub stretch_spec : {M : Type 1} → statement M

@@ -4,11 +4,11 @@ use Rattle.timeline.proofs.Parts.{gap_some, gap_none}
 use Rattle.timeline.proofs.reply.gap_size.Statement.{statement}
 use Rattle.timeline.proofs.reply.gap_size.Tie as tie
 
-returns : tie.Need-returns
-returns c = (sym (gap_some c.if1.true), omega arith)
+returns : tie.Need-returns-then-from-to
+returns c = (sym (gap_some c.if-from-to.true), omega arith)
 
-returns_2 : tie.Need-returns-2
-returns_2 c = (sym (gap_none c.if1.false), omega arith)
+returns_2 : tie.Need-returns-else-from-to
+returns_2 c = (sym (gap_none c.if-from-to.false), omega arith)
 
 pub gap_size_spec : {M : Type 1} → statement M
 gap_size_spec = tie.close (tie.spec returns returns_2)

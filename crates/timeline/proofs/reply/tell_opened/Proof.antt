@@ -11,67 +11,67 @@ use borrow.Author.Rules.{rules}
 use Rattle.timeline.proofs.reply.tell_opened.Statement.{statement}
 use Rattle.timeline.proofs.reply.tell_opened.Tie as tie
 
-abbrev start : tie.After-judged-window → tie.Start
+abbrev start : tie.After-judged_window → tie.Start
 start c = c.before.before.before.before.before.before.before
 
 -- what is judged is the book's opening and the window
-asked : (c : tie.After-judged-window)
+asked : (c : tie.After-judged_window)
     → let args = (start c).args in
-    c.judged-window.result ≡ judged_by (opened args.book.now) (window_of args.start args.end)
-asked c = judged_as _ _ _ (start c).ranges.start (start c).ranges.end (start c).requires.answer c.judged-window.ensures.1
+    c.judged_window.result ≡ judged_by (opened args.book.now) (window_of args.start args.end)
+asked c = judged_as _ _ _ (start c).ranges.start (start c).ranges.end (start c).requires.answer c.judged_window.ensures.1
 
 -- of a venue
-named : (c : tie.After-h)
+named : (c : tie.In-Venue-2)
     → let args = (start c.before.before).args in
-    Named args.book.now args.start args.end c.h.given.0.0 c.h.given.0.1.0 c.h.given.0.1.1.0
-named c = judged_venue _ _ _ (sym c.h.given.1 ∙ asked c.before.before)
+    Named args.book.now args.start args.end c.h-1.given.0.0 c.h-1.given.0.1.0 c.h-1.given.0.1.1.0
+named c = judged_venue _ _ _ (sym c.h-1.given.1 ∙ asked c.before.before)
 
-tell_empty_requires : tie.Need-tell-empty-requires
+tell_empty_requires : tie.Need-tell_empty-requires
 tell_empty_requires c κs =
     let at_a = c.before.before in
-    (judged_blank _ _ _ (sym at_a.a.given.1 ∙ asked at_a.before.before)).window.order
+    (judged_blank _ _ _ (sym at_a.a-1.given.1 ∙ asked at_a.before.before)).window.order
 
-slice_aggregate_tell_venue : tie.Need-slice-aggregate-tell-venue
+slice_aggregate_tell_venue : tie.Need-slice_bounds-tell_venue-end
 slice_aggregate_tell_venue c =
     let at-h = c.before.before in
     sym (length-take-le _ _ (ats_in (start at-h.before.before).requires (named at-h).known))
 
-slice_aggregate_tell_venue_2 : tie.Need-slice-aggregate-tell-venue-2
+slice_aggregate_tell_venue_2 : tie.Need-slice_bounds-tell_venue-end-in-Venue
 slice_aggregate_tell_venue_2 c =
     let at-h = c.before.before.before in
     sym (length-take-le _ _ (offsets_in (start at-h.before.before).requires (named at-h).known))
 
-slice_aggregate_tell_venue_3 : tie.Need-slice-aggregate-tell-venue-3
+slice_aggregate_tell_venue_3 : tie.Need-slice_bounds-tell_venue-end-in-Venue-2
 slice_aggregate_tell_venue_3 c =
     let at-h = c.before.before.before.before in
     sym (length-take-le _ _ (rules_in (start at-h.before.before).requires (named at-h).known))
 
-slice_aggregate_tell_venue_4 : tie.Need-slice-aggregate-tell-venue-4
+slice_aggregate_tell_venue_4 : tie.Need-slice_bounds-tell_venue-end-in-Venue-3
 slice_aggregate_tell_venue_4 c =
     let at-h = c.before.before.before.before.before in
     sym (length-take-le _ _ (events_in (start at-h.before.before).requires (named at-h).known))
 
-tell_venue_requires : tie.Need-tell-venue-requires
+tell_venue_requires : tie.Need-tell_venue-requires
 tell_venue_requires c κs =
     let at-h = c.before.before.before.before.before.before in
     front_ready (start at-h.before.before).requires (named at-h).known
 
-returns : tie.Need-returns
+returns : tie.Need-returns-in-Refused
 returns c =
     let at_n = c.before.before in
-    close_refused _ _ _ (sym at_n.n.given.1 ∙ asked at_n.before.before) c.refused.ensures
+    close_refused _ _ _ (sym at_n.n-1.given.1 ∙ asked at_n.before.before) c.refused.ensures
 
-returns_2 : tie.Need-returns-2
+returns_2 : tie.Need-returns-in-Blank
 returns_2 c =
     let at-tell-empty = c.before.before in
     let at_a = at-tell-empty.before.before.before in
-    close_empty _ _ _ (judged_blank _ _ _ (sym at_a.a.given.1 ∙ asked at_a.before.before)) at-tell-empty.tell-empty.ensures
+    close_empty _ _ _ (judged_blank _ _ _ (sym at_a.a-1.given.1 ∙ asked at_a.before.before)) at-tell-empty.tell_empty.ensures
 
-returns_3 : tie.Need-returns-3
+returns_3 : tie.Need-returns-in-Venue
 returns_3 c =
     let at-tell-venue = c.before.before in
     let at-h = at-tell-venue.before.before.before.before.before.before.before in
-    close_venue _ _ _ (named at-h) _ (front_values (start at-h.before.before).requires (named at-h).known) at-tell-venue.tell-venue.ensures
+    close_venue _ _ _ (named at-h) _ (front_values (start at-h.before.before).requires (named at-h).known) at-tell-venue.tell_venue.ensures
 
 pub tell_opened_spec : {M : Type 1} → statement M
 tell_opened_spec =

@@ -12,7 +12,7 @@ use Rattle.timeline.proofs.reply.tell_venue.Tie as tie
 
 -- ---- the venue and its coverage, where the parts are known
 
-abbrev start : tie.After-walk-size → tie.Start
+abbrev start : tie.After-walk_size-walked → tie.Start
 start c = c.before.before.before.before.before.before.before.before.before.before.before.before.before
 
 abbrev venue_in : tie.Start → Values
@@ -21,13 +21,13 @@ venue_in c = values_at c.args.book.now c.args.h c.args.ats.now c.args.offsets.no
 abbrev covered_in : tie.Start → Covered
 covered_in c = Between c.args.h.start c.args.h.end
 
-cut : (c : tie.After-walk-size)
+cut : (c : tie.After-walk_size-walked)
     → let at-later2 = c.before in
     let at-earlier2 = at-later2.before in
     let at-later = at-earlier2.before in
     let args = (start c).args in
-    Cut (venue_in (start c)) args.start.0 args.end.0 at-later.before.earlier.result at-later.later.result at-earlier2.earlier2.result
-    at-later2.later2.result c.walk-size.result
+    Cut (venue_in (start c)) args.start.0 args.end.0 at-later.before.earlier.result at-later.later.result at-earlier2.earlier-2.result
+    at-later2.later-2.result c.walk_size-walked.result
 cut c =
     let at-later2 = c.before in
     let at-earlier2 = at-later2.before in
@@ -35,69 +35,69 @@ cut c =
     record {
       first_to = at-later.before.earlier.ensures;
       walk_from = at-later.later.ensures;
-      walk_to = at-earlier2.earlier2.ensures;
-      last_from = at-later2.later2.ensures;
-      size = c.walk-size.ensures.0;
+      walk_to = at-earlier2.earlier-2.ensures;
+      last_from = at-later2.later-2.ensures;
+      size = c.walk_size-walked.ensures.0;
     }
 
 -- there is room for all of it
-fits : (c : tie.Else1) → let l = c.before.before.before in total (covered_in (start l)) (cut l) ≤ length (start l).args.out.now
-fits c = omega (arith, c.if1.false, c.before.before.gap-size.ensures.0, c.before.gap-size2.ensures.0)
+fits : (c : tie.Else-out-length) → let l = c.before.before.before in total (covered_in (start l)) (cut l) ≤ length (start l).args.out-1.now
+fits c = omega (arith, c.if-out-length.false, c.before.before.gap_size.ensures.0, c.before.gap_size-2.ensures.0)
 
-walk_size_requires : tie.Need-walk-size-requires
+walk_size_requires : tie.Need-walk_size-walked-requires
 walk_size_requires c κs = c.before.before.before.before.before.before.before.before.before.before.before.before.requires
 
-add_length : tie.Need-overflow-add-length
-add_length c = omega (arith, c.gap-size.ensures.1, c.before.walk-size.ensures.1)
+add_length : tie.Need-overflow_add-length
+add_length c = omega (arith, c.gap_size.ensures.1, c.before.walk_size-walked.ensures.1)
 
-add_length_2 : tie.Need-overflow-add-length-2
+add_length_2 : tie.Need-overflow_add-length-2
 add_length_2 c =
     let at-gap-size = c.before in
-    omega (arith, at-gap-size.gap-size.ensures.1, c.gap-size2.ensures.1, at-gap-size.before.walk-size.ensures.1)
+    omega (arith, at-gap-size.gap_size.ensures.1, c.gap_size-2.ensures.1, at-gap-size.before.walk_size-walked.ensures.1)
 
-returns : tie.Need-returns
+returns : tie.Need-returns-then-out-length
 returns c =
     let at-if1 = c.before in
     let at-gap-size2 = at-if1.before in
     let at-gap-size = at-gap-size2.before in
     let l = at-gap-size.before in
     told_short (covered_in (start l)) (cut l)
-    (omega (arith, at-if1.if1.true, at-gap-size.gap-size.ensures.0, at-gap-size2.gap-size2.ensures.0)) c.refused.ensures
+    (omega (arith, at-if1.if-out-length.true, at-gap-size.gap_size.ensures.0, at-gap-size2.gap_size-2.ensures.0)) c.refused.ensures
 
-put_unknown_requires : tie.Need-put-unknown-requires
+put_unknown_requires : tie.Need-put_unknown-a-requires
 put_unknown_requires c κs = omega (arith, fits c.before)
 
-put_walk_requires : tie.Need-put-walk-requires
+put_walk_requires : tie.Need-put_walk-b-requires
 put_walk_requires c κs =
     let at-put-unknown = c.before.before.before in
     let at-if1 = at-put-unknown.before.before in
     let l = at-if1.before.before.before in
-    ((start l).requires, walk_room (covered_in (start l)) (cut l) (fits at-if1) at-put-unknown.put-unknown.ensures)
+    ((start l).requires, walk_room (covered_in (start l)) (cut l) (fits at-if1) at-put-unknown.put_unknown-a.ensures)
 
-put_unknown_requires_2 : tie.Need-put-unknown-requires-2
+put_unknown_requires_2 : tie.Need-put_unknown-requires
 put_unknown_requires_2 c κs =
     let at-put-walk = c.before.before.before in
     let at-put-unknown = at-put-walk.before.before.before.before in
     let at-if1 = at-put-unknown.before.before in
     let l = at-if1.before.before.before in
-    last_room (covered_in (start l)) (cut l) (fits at-if1) at-put-unknown.put-unknown.ensures at-put-walk.put-walk.ensures
+    last_room (covered_in (start l)) (cut l) (fits at-if1) at-put-unknown.put_unknown-a.ensures at-put-walk.put_walk-b.ensures
 
-same_length : tie.Need-same-length
+same_length : tie.Need-shape_of-out
 same_length c =
     let at-put-unknown2 = c.before.before.before in
     let at-put-walk = at-put-unknown2.before.before.before.before in
     let at-put-unknown = at-put-walk.before.before.before.before in
-    at-put-unknown2.put-unknown2.ensures.kept ∙ at-put-walk.put-walk.ensures.kept ∙ at-put-unknown.put-unknown.ensures.kept
+    at-put-unknown2.put_unknown.ensures.kept ∙ at-put-walk.put_walk-b.ensures.kept ∙ at-put-unknown.put_unknown-a.ensures.kept
 
-returns_2 : tie.Need-returns-2
+returns_2 : tie.Need-returns
 returns_2 c =
     let at-put-unknown2 = c.before.before.before in
     let at-put-walk = at-put-unknown2.before.before.before.before in
     let at-put-unknown = at-put-walk.before.before.before.before in
     let at-if1 = at-put-unknown.before.before in
     let l = at-if1.before.before.before in
-    told_written (covered_in (start l)) (cut l) (fits at-if1) at-put-unknown.put-unknown.ensures at-put-walk.put-walk.ensures
-    at-put-unknown2.put-unknown2.ensures c.answered.ensures
+    told_written (covered_in (start l)) (cut l) (fits at-if1) at-put-unknown.put_unknown-a.ensures at-put-walk.put_walk-b.ensures
+    at-put-unknown2.put_unknown.ensures c.answered.ensures
 
 pub tell_venue_spec : {M : Type 1} → statement M
 tell_venue_spec =

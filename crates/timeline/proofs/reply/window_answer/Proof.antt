@@ -12,34 +12,34 @@ use borrow.Author.Rules.{rules}
 use Rattle.timeline.proofs.reply.window_answer.Statement.{statement}
 use Rattle.timeline.proofs.reply.window_answer.Tie as tie
 
-abbrev start : tie.After-open → tie.Start
+abbrev start : tie.After-open-opened → tie.Start
 start c = c.before.before.before.before.before.before.before
 
-abbrev book_in : tie.After-open → List ℕ
+abbrev book_in : tie.After-open-opened → List ℕ
 book_in c = (start c).args.book.now
 
 -- opening leaves each array as long as it was
-slice_aggregate_tell_opened : tie.Need-slice-aggregate-tell-opened
+slice_aggregate_tell_opened : tie.Need-slice_bounds-tell_opened-end
 slice_aggregate_tell_opened c =
     let at_open = c.before in
     sym (stored_length (book_in at_open) _ _ (ats_fit (book_in at_open)) at_open.«open».ensures.1)
 
-slice_aggregate_tell_opened_2 : tie.Need-slice-aggregate-tell-opened-2
+slice_aggregate_tell_opened_2 : tie.Need-slice_bounds-tell_opened-end-2
 slice_aggregate_tell_opened_2 c =
     let at_open = c.before.before in
     sym (stored_length (book_in at_open) _ _ (offsets_fit (book_in at_open)) at_open.«open».ensures.2)
 
-slice_aggregate_tell_opened_3 : tie.Need-slice-aggregate-tell-opened-3
+slice_aggregate_tell_opened_3 : tie.Need-slice_bounds-tell_opened-end-3
 slice_aggregate_tell_opened_3 c =
     let at_open = c.before.before.before in
     sym (stored_length (book_in at_open) _ _ (rules_fit (book_in at_open)) at_open.«open».ensures.3)
 
-slice_aggregate_tell_opened_4 : tie.Need-slice-aggregate-tell-opened-4
+slice_aggregate_tell_opened_4 : tie.Need-slice_bounds-tell_opened-end-4
 slice_aggregate_tell_opened_4 c =
     let at_open = c.before.before.before.before in
     sym (stored_length (book_in at_open) _ _ (events_fit (book_in at_open)) at_open.«open».ensures.4)
 
-tell_opened_requires : tie.Need-tell-opened-requires
+tell_opened_requires : tie.Need-tell_opened-requires
 tell_opened_requires c κs =
     let at_open = c.before.before.before.before.before in
     filled (book_in at_open) _ _ _ _ at_open.«open».ensures (omega arith) (omega arith) (omega arith) (omega arith)
@@ -50,7 +50,7 @@ returns c =
     let at_open = at-tell-opened.before.before.before.before.before.before in
     let y = to_z-of_z w64 (start at_open).args.start (start at_open).ranges.start in
     let z = to_z-of_z w64 (start at_open).args.end (start at_open).ranges.end in
-    lent_same at-tell-opened.tell-opened.ensures (ap₂ (window_number (book_in at_open)) y z) (ap₂ (window_answer (book_in at_open)) y z)
+    lent_same at-tell-opened.tell_opened.ensures (ap₂ (window_number (book_in at_open)) y z) (ap₂ (window_answer (book_in at_open)) y z)
 
 pub window_answer_spec : {M : Type 1} → statement M
 window_answer_spec =

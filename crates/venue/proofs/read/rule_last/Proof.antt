@@ -7,7 +7,7 @@ use Rattle.venue.proofs.read.rule_last.Tie as tie
 signed4_requires : tie.Need-signed4-requires
 signed4_requires c κs = omega (arith, rule_room c.before.requires)
 
-sub_t5 : tie.Need-overflow-sub-t5
+sub_t5 : tie.Need-overflow_sub-result
 sub_t5 c =
     let at-signed4 = c.before in
     let d = (rule_fields at-signed4.before.before.requires).dates_in in

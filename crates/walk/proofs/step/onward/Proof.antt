@@ -6,22 +6,22 @@ use borrow.Author.Rules.{rules}
 use Rattle.walk.proofs.step.onward.Statement.{statement}
 use Rattle.walk.proofs.step.onward.Tie as tie
 
-returns : tie.Need-returns
+returns : tie.Need-returns-then-began-cursor
 returns c =
     let at-if1 = c in
-    rw (lt-ltb _ _ at-if1.if1.true)
+    rw (lt-ltb _ _ at-if1.if-began-cursor.true)
 
-midnight_after_requires : tie.Need-midnight-after-requires
+midnight_after_requires : tie.Need-midnight_after-midnight-requires
 midnight_after_requires c κs =
     let at-start = c.before.before.before.before.before in
     at-start.requires
 
-returns_2 : tie.Need-returns-2
+returns_2 : tie.Need-returns
 returns_2 c =
     let at-earlier = c in
     let at-midnight-after = at-earlier.before.before in
     let at-if1 = at-midnight-after.before in
-    rw (le-ltb _ _ at-if1.if1.false) (at-earlier.earlier.ensures ∙ ap (min _) (ap (λ (b : Boundary). b.at.0) at-midnight-after.midnight-after.ensures))
+    rw (le-ltb _ _ at-if1.if-began-cursor.false) (at-earlier.earlier.ensures ∙ ap (min _) (ap (λ (b : Boundary). b.at-1.0) at-midnight-after.midnight_after-midnight.ensures))
 
 pub onward_spec : {M : Type 1} → statement M
 onward_spec = tie.close (tie.spec returns midnight_after_requires (λ c κs. search rules) returns_2)

@@ -5,100 +5,100 @@ use Rattle.walk.proofs.Showing.{Hidden, hidden_none, hidden_next}
 use Rattle.walk.proofs.step.showing.Statement.{statement}
 use Rattle.walk.proofs.step.showing.Tie as tie
 
-abbrev invariant-loop : tie.invariant-loop
+abbrev invariant-loop : tie.invariant-loop-i
 invariant-loop edges k n cursor hi i₀ i = Hidden edges k n cursor.0 hi.0 i
 
-abbrev decreases-loop : tie.decreases-loop
+abbrev decreases-loop : tie.decreases-loop-i
 decreases-loop edges k n cursor hi i₀ i = n - i
 
-loop_holds : tie.Need-loop-init invariant-loop decreases-loop
+loop_holds : tie.Need-loop-i-init invariant-loop decreases-loop
 loop_holds c =
     let at-start = c.before in
     hidden_none _ _ _ _ _ (at-start.requires.0)
 
-mul_later : tie.Need-overflow-mul-later invariant-loop decreases-loop
+mul_later : tie.Need-offset_bounds-edges-i invariant-loop decreases-loop
 mul_later c =
     let at-loop-test = c in
     let at-loop = at-loop-test.before in
     let at-start = at-loop.before.before in
-    let t = at-loop-test.loop-test.true in let f = at-loop.loop.invariant in let p = at-start.requires in omega (arith, t, f.most, p)
+    let t = at-loop-test.loop-i-test.true in let f = at-loop.loop-i.invariant in let p = at-start.requires in omega (arith, t, f.most, p)
 
-shared_slice_read_later : tie.Need-shared-slice-read-later invariant-loop decreases-loop
+shared_slice_read_later : tie.Need-bounds-edges-i invariant-loop decreases-loop
 shared_slice_read_later c =
     let at-loop-test = c.before in
     let at-loop = at-loop-test.before in
     let at-start = at-loop.before.before in
-    let t = at-loop-test.loop-test.true in let f = at-loop.loop.invariant in let p = at-start.requires in omega (arith, t, f.most, p)
+    let t = at-loop-test.loop-i-test.true in let f = at-loop.loop-i.invariant in let p = at-start.requires in omega (arith, t, f.most, p)
 
-add_earlier : tie.Need-overflow-add-earlier invariant-loop decreases-loop
+add_earlier : tie.Need-overflow_add-i invariant-loop decreases-loop
 add_earlier c =
     let at-loop-test = c.before.before in
     let at-loop = at-loop-test.before in
     let at-start = at-loop.before.before in
-    let t = at-loop-test.loop-test.true in let f = at-loop.loop.invariant in let p = at-start.requires in omega (arith, t, f.most, p)
+    let t = at-loop-test.loop-i-test.true in let f = at-loop.loop-i.invariant in let p = at-start.requires in omega (arith, t, f.most, p)
 
-mul_earlier : tie.Need-overflow-mul-earlier invariant-loop decreases-loop
+mul_earlier : tie.Need-offset_bounds-edges-i-in-loop-i invariant-loop decreases-loop
 mul_earlier c =
     let at-loop-test = c.before.before in
     let at-loop = at-loop-test.before in
     let at-start = at-loop.before.before in
-    let t = at-loop-test.loop-test.true in let f = at-loop.loop.invariant in let p = at-start.requires in omega (arith, t, f.most, p)
+    let t = at-loop-test.loop-i-test.true in let f = at-loop.loop-i.invariant in let p = at-start.requires in omega (arith, t, f.most, p)
 
-shared_slice_read_earlier : tie.Need-shared-slice-read-earlier invariant-loop decreases-loop
+shared_slice_read_earlier : tie.Need-bounds-edges-i-in-loop-i invariant-loop decreases-loop
 shared_slice_read_earlier c =
     let at-loop-test = c.before.before.before in
     let at-loop = at-loop-test.before in
     let at-start = at-loop.before.before in
-    let t = at-loop-test.loop-test.true in let f = at-loop.loop.invariant in let p = at-start.requires in omega (arith, t, f.most, p)
+    let t = at-loop-test.loop-i-test.true in let f = at-loop.loop-i.invariant in let p = at-start.requires in omega (arith, t, f.most, p)
 
-returns : tie.Need-returns invariant-loop decreases-loop
+returns : tie.Need-returns-then-later-earlier invariant-loop decreases-loop
 returns c =
     let at-if1 = c in
     let at-earlier = at-if1.before in
     let at-later = at-earlier.before.before in
     let at-loop-test = at-later.before.before in
     let at-loop = at-loop-test.before in
-    let t = at-loop-test.loop-test.true in
+    let t = at-loop-test.loop-i-test.true in
     record {
-      from = at-loop.loop.invariant.from;
+      from = at-loop.loop-i.invariant.from;
       most = omega (arith, t);
-      hidden = at-loop.loop.invariant.hidden;
-      shown = λ h. omega (arith, at-if1.if1.true, at-later.later.ensures, at-earlier.earlier.ensures);
+      hidden = at-loop.loop-i.invariant.hidden;
+      shown = λ h. omega (arith, at-if1.if-later-earlier.true, at-later.later.ensures, at-earlier.earlier.ensures);
     }
 
-add_i : tie.Need-overflow-add-i invariant-loop decreases-loop
+add_i : tie.Need-overflow_add-i-in-loop-i invariant-loop decreases-loop
 add_i c =
     let at-loop-test = c.before.before.before.before.before in
     let at-loop = at-loop-test.before in
     let at-start = at-loop.before.before in
-    let t = at-loop-test.loop-test.true in let f = at-loop.loop.invariant in let p = at-start.requires in omega (arith, t, f.most, p)
+    let t = at-loop-test.loop-i-test.true in let f = at-loop.loop-i.invariant in let p = at-start.requires in omega (arith, t, f.most, p)
 
-loop_less : tie.Need-loop-smaller invariant-loop decreases-loop
+loop_less : tie.Need-loop-i-smaller invariant-loop decreases-loop
 loop_less c =
     let at-loop-test = c.before.before.before.before.before in
     let at-loop = at-loop-test.before in
     let at-start = at-loop.before.before in
-    let t = at-loop-test.loop-test.true in let f = at-loop.loop.invariant in let p = at-start.requires in omega (arith, t, f.most, p)
+    let t = at-loop-test.loop-i-test.true in let f = at-loop.loop-i.invariant in let p = at-start.requires in omega (arith, t, f.most, p)
 
-loop_again : tie.Need-loop-preserved invariant-loop decreases-loop
+loop_again : tie.Need-loop-i-preserved invariant-loop decreases-loop
 loop_again c =
     let at-if1 = c in
     let at-earlier = at-if1.before in
     let at-later = at-earlier.before.before in
     let at-loop-test = at-later.before.before in
     let at-loop = at-loop-test.before in
-    hidden_next _ _ _ _ _ _ at-loop.loop.invariant at-loop-test.loop-test.true
-    (omega (arith, at-if1.if1.false, at-later.later.ensures, at-earlier.earlier.ensures))
+    hidden_next _ _ _ _ _ _ at-loop.loop-i.invariant at-loop-test.loop-i-test.true
+    (omega (arith, at-if1.if-later-earlier.false, at-later.later.ensures, at-earlier.earlier.ensures))
 
-returns_2 : tie.Need-returns-2 invariant-loop decreases-loop
+returns_2 : tie.Need-returns invariant-loop decreases-loop
 returns_2 c =
     let at-loop-test = c in
     let at-loop = at-loop-test.before in
-    let f = at-loop.loop.invariant in
+    let f = at-loop.loop-i.invariant in
     record {
-      from = omega (arith, f.from, f.most, at-loop-test.loop-test.false);
+      from = omega (arith, f.from, f.most, at-loop-test.loop-i-test.false);
       most = omega arith;
-      hidden = λ j a b. f.hidden j a (omega (arith, at-loop-test.loop-test.false));
+      hidden = λ j a b. f.hidden j a (omega (arith, at-loop-test.loop-i-test.false));
       shown = λ h. absurd (omega arith);
     }
 

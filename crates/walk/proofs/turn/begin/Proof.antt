@@ -16,18 +16,18 @@ use borrow.Author.Rules.{rules}
 use Rattle.walk.proofs.turn.begin.Statement.{statement}
 use Rattle.walk.proofs.turn.begin.Tie as tie
 
-steady_offset_requires : tie.Need-steady-offset-requires
+steady_offset_requires : tie.Need-steady_offset-steady-requires
 steady_offset_requires c κs =
     let at-start = c.before.before.before.before in
     at-start.requires.0
 
-date_of_requires : tie.Need-date-of-requires
+date_of_requires : tie.Need-date_of-date-requires
 date_of_requires c κs =
     let at-steady-offset = c in
     let at-start = at-steady-offset.before.before.before.before.before in
-    (at-start.requires.0, at-steady-offset.steady-offset.ensures)
+    (at-start.requires.0, at-steady-offset.steady_offset-steady.ensures)
 
-governing_near_requires : tie.Need-governing-near-requires
+governing_near_requires : tie.Need-governing_near-governed-requires
 governing_near_requires c κs =
     let at-governing-near-arg = c in
     let at-date-of = at-governing-near-arg.before in
@@ -35,18 +35,18 @@ governing_near_requires c κs =
     let args = at-start.args in (
       at-start.requires.1,
       at-start.requires.2,
-      omega (arith, at-governing-near-arg.governing-near-arg.given),
+      omega (arith, at-governing-near-arg.governing_near-arg-1.given),
       omega
-          (arith, at-date-of.date-of.ensures, date_small args.offset0 args.ats.now args.offsets.now args.cursor.0 at-start.requires.0),
+          (arith, at-date-of.date_of-date.ensures, date_small args.offset0 args.ats.now args.offsets.now args.cursor.0 at-start.requires.0),
     )
 
-enum_told : tie.Need-enum-told
+enum_told : tie.Need-enum_told-1
 enum_told c = search rules
 
-enum_known_governed : tie.Need-enum-known-governed
+enum_known_governed : tie.Need-enum_known-governed
 enum_known_governed c = search rules
 
-date_boundaries_requires : tie.Need-date-boundaries-requires
+date_boundaries_requires : tie.Need-date_boundaries-clear-requires
 date_boundaries_requires c κs =
     let at-date-boundaries-arg = c in
     let at-governed = at-date-boundaries-arg.before.before in
@@ -56,14 +56,14 @@ date_boundaries_requires c κs =
     let at-start = at-steady-offset.before.before.before.before.before in
     let args = at-start.args in (
       at-start.requires.0,
-      stands_at args.book.now at-governing-near.governing-near.ensures.1 at-governed.governed.given.1,
+      stands_at args.book.now at-governing-near.governing_near-governed.ensures.1 at-governed.governed-1.given.1,
       omega
-          (arith, at-date-boundaries-arg.date-boundaries-arg.given),
+          (arith, at-date-boundaries-arg.date_boundaries-arg-1.given),
       steady_on args.offset0 args.ats.now args.offsets.now at-start.requires.0
-          args.cursor.0 _ at-steady-offset.steady-offset.ensures _ at-date-of.date-of.ensures,
+          args.cursor.0 _ at-steady-offset.steady_offset-steady.ensures _ at-date-of.date_of-date.ensures,
     )
 
-returns : tie.Need-returns
+returns : tie.Need-returns-in-Nothing
 returns c =
     let at-enum-told = c in
     let at-governing-near = at-enum-told.before.before in
@@ -72,22 +72,22 @@ returns c =
     let args = at-start.args in
     let zoneOf-is = zone_of args.offset0 args.ats.now args.offsets.now in (
       begun args.book.now zoneOf-is (governing_rule (map (rule_at args.book.now) args.rules.now)) args.turns args.cursor _ _ true _
-          at-date-of.date-of.ensures at-governing-near.governing-near.ensures.0
-          (kept_nothing args.book.now zoneOf-is _ _ at-enum-told.enum_told.given.1),
-      at-governing-near.governing-near.ensures.3,
+          at-date-of.date_of-date.ensures at-governing-near.governing_near-governed.ensures.0
+          (kept_nothing args.book.now zoneOf-is _ _ at-enum-told.enum_told-1.given.1),
+      at-governing-near.governing_near-governed.ensures.3,
       record {
         left = refl;
         began = refl;
         at = refl;
-        date = at-date-of.date-of.ensures;
-        place = at-governing-near.governing-near.ensures.2;
+        date = at-date-of.date_of-date.ensures;
+        place = at-governing-near.governing_near-governed.ensures.2;
         next = refl;
-        edges = sym (ap (λ (g : Governed). edges_after args.book.now zoneOf-is at-date-of.date-of.result.0 g args.edges.now) at-enum-told.enum_told.given.1);
-        keeps = at-governing-near.governing-near.ensures.4;
+        edges = sym (ap (λ (g : Governed). edges_after args.book.now zoneOf-is at-date-of.date_of-date.result.0 g args.edges.now) at-enum-told.enum_told-1.given.1);
+        keeps = at-governing-near.governing_near-governed.ensures.4;
       },
     )
 
-returns_2 : tie.Need-returns-2
+returns_2 : tie.Need-returns-in-By
 returns_2 c =
     let at-date-boundaries = c in
     let at-governed = at-date-boundaries.before.before.before in
@@ -97,21 +97,21 @@ returns_2 c =
     let args = at-start.args in
     let zoneOf-is = zone_of args.offset0 args.ats.now args.offsets.now in (
       begun args.book.now zoneOf-is (governing_rule (map (rule_at args.book.now) args.rules.now)) args.turns args.cursor
-          at-date-of.date-of.result _ _ _ at-date-of.date-of.ensures
-          (sym (ap (ruled args.book.now) at-governed.governed.given.1) ∙ at-governing-near.governing-near.ensures.0) (kept_rule
-          args.book.now zoneOf-is at-date-of.date-of.result.0 _ _ _ refl
-          (stands_at args.book.now at-governing-near.governing-near.ensures.1 at-governed.governed.given.1)
-          at-date-boundaries.date-boundaries.ensures.0 at-date-boundaries.date-boundaries.ensures.1),
-      at-governing-near.governing-near.ensures.3,
+          at-date-of.date_of-date.result _ _ _ at-date-of.date_of-date.ensures
+          (sym (ap (ruled args.book.now) at-governed.governed-1.given.1) ∙ at-governing-near.governing_near-governed.ensures.0) (kept_rule
+          args.book.now zoneOf-is at-date-of.date_of-date.result.0 _ _ _ refl
+          (stands_at args.book.now at-governing-near.governing_near-governed.ensures.1 at-governed.governed-1.given.1)
+          at-date-boundaries.date_boundaries-clear.ensures.0 at-date-boundaries.date_boundaries-clear.ensures.1),
+      at-governing-near.governing_near-governed.ensures.3,
       record {
         left = refl;
         began = refl;
         at = refl;
-        date = at-date-of.date-of.ensures;
-        place = sym (ap place_of at-governed.governed.given.1) ∙ at-governing-near.governing-near.ensures.2;
+        date = at-date-of.date_of-date.ensures;
+        place = sym (ap place_of at-governed.governed-1.given.1) ∙ at-governing-near.governing_near-governed.ensures.2;
         next = refl;
-        edges = at-date-boundaries.date-boundaries.ensures.0;
-        keeps = at-governing-near.governing-near.ensures.4;
+        edges = at-date-boundaries.date_boundaries-clear.ensures.0;
+        keeps = at-governing-near.governing_near-governed.ensures.4;
       },
     )
 

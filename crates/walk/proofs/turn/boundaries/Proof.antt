@@ -11,19 +11,19 @@ use native.Mathlib.Omega.{arith}
 use Rattle.walk.proofs.turn.boundaries.Statement.{statement}
 use Rattle.walk.proofs.turn.boundaries.Tie as tie
 
-abbrev invariant-loop : tie.invariant-loop
+abbrev invariant-loop : tie.invariant-loop-i
 invariant-loop book first ats offsets rule d edges₀ place n before₀ clear₀ i₀ edges before clear i =
     Filling (zone_of first ats offsets) (rule_at book rule) d.0 edges₀ edges before i × ClearTo (zone_of first ats offsets) (rule_at book rule) d.0 clear i
 
-abbrev decreases-loop : tie.decreases-loop
+abbrev decreases-loop : tie.decreases-loop-i
 decreases-loop book first ats offsets rule d edges₀ place n before₀ clear₀ i₀ edges before clear i = n - i
 
-rule_points_requires : tie.Need-rule-points-requires invariant-loop decreases-loop
+rule_points_requires : tie.Need-rule_points-n-requires invariant-loop decreases-loop
 rule_points_requires c κs =
     let at-start = c.before.before.before.before in
     at-start.requires.1
 
-loop_holds : tie.Need-loop-init invariant-loop decreases-loop
+loop_holds : tie.Need-loop-i-init invariant-loop decreases-loop
 loop_holds c =
     let at-start = c.before.before.before.before.before in
     let args = at-start.args in (
@@ -31,66 +31,66 @@ loop_holds c =
       clear_none (zone_of args.offset0 args.ats.now args.offsets.now) (rule_at args.book.now args.rule) args.d.0,
     )
 
-point_time_requires : tie.Need-point-time-requires invariant-loop decreases-loop
+point_time_requires : tie.Need-point_time-requires invariant-loop decreases-loop
 point_time_requires c κs =
     let at-loop-test = c in
     let at-rule-points = at-loop-test.before.before in
     let at-start = at-rule-points.before.before.before.before.before in
-    (at-start.requires.1, omega (arith, at-rule-points.rule-points.ensures.0, at-loop-test.loop-test.true))
+    (at-start.requires.1, omega (arith, at-rule-points.rule_points-n.ensures.0, at-loop-test.loop-i-test.true))
 
-to_utc_at_requires : tie.Need-to-utc-at-requires invariant-loop decreases-loop
+to_utc_at_requires : tie.Need-to_utc_at-own-requires invariant-loop decreases-loop
 to_utc_at_requires c κs =
     let at-start = c.before.before.before.before.before.before.before.before in
     at-start.requires.0
 
-later_requires : tie.Need-later-requires invariant-loop decreases-loop
+later_requires : tie.Need-later-before-requires invariant-loop decreases-loop
 later_requires c κs = tt
 
-is_exact_requires : tie.Need-is-exact-requires invariant-loop decreases-loop
+is_exact_requires : tie.Need-is_exact-clear-requires invariant-loop decreases-loop
 is_exact_requires c κs = tt
 
-mul_edges : tie.Need-overflow-mul-edges invariant-loop decreases-loop
+mul_edges : tie.Need-offset_bounds-edges-i invariant-loop decreases-loop
 mul_edges c =
     let at-loop-test = c.before.before.before.before.before in
     let at-loop = at-loop-test.before in
     let at-rule-points = at-loop.before in
     let at-start = at-rule-points.before.before.before.before.before in
-    let n = at-rule-points.rule-points.ensures in
-    let t = at-loop-test.loop-test.true in
-    let l = at-loop.loop.invariant.0.long in
+    let n = at-rule-points.rule_points-n.ensures in
+    let t = at-loop-test.loop-i-test.true in
+    let l = at-loop.loop-i.invariant.0.long in
     let p = at-start.requires.2 in
     omega (arith, n.2, t, l, p)
 
-slice_write_edges : tie.Need-slice-write-edges invariant-loop decreases-loop
+slice_write_edges : tie.Need-bounds-edges-i invariant-loop decreases-loop
 slice_write_edges c =
     let at-loop-test = c.before.before.before.before.before in
     let at-loop = at-loop-test.before in
     let at-rule-points = at-loop.before in
     let at-start = at-rule-points.before.before.before.before.before in
-    let n = at-rule-points.rule-points.ensures in
-    let t = at-loop-test.loop-test.true in
-    let l = at-loop.loop.invariant.0.long in
+    let n = at-rule-points.rule_points-n.ensures in
+    let t = at-loop-test.loop-i-test.true in
+    let l = at-loop.loop-i.invariant.0.long in
     let p = at-start.requires.2 in
     omega (arith, n.2, t, l, p)
 
-add_i : tie.Need-overflow-add-i invariant-loop decreases-loop
+add_i : tie.Need-overflow_add-i invariant-loop decreases-loop
 add_i c =
     let at-loop-test = c.before.before.before.before.before in
     let at-loop = at-loop-test.before in
     let at-rule-points = at-loop.before in
     let at-start = at-rule-points.before.before.before.before.before in
-    let n = at-rule-points.rule-points.ensures in
-    let t = at-loop-test.loop-test.true in
-    let l = at-loop.loop.invariant.0.long in
+    let n = at-rule-points.rule_points-n.ensures in
+    let t = at-loop-test.loop-i-test.true in
+    let l = at-loop.loop-i.invariant.0.long in
     let p = at-start.requires.2 in
     omega (arith, n.2, t, l, p)
 
-loop_less : tie.Need-loop-smaller invariant-loop decreases-loop
+loop_less : tie.Need-loop-i-smaller invariant-loop decreases-loop
 loop_less c =
     let at-loop-test = c.before.before.before.before.before in
-    let t = at-loop-test.loop-test.true in omega (arith, t)
+    let t = at-loop-test.loop-i-test.true in omega (arith, t)
 
-loop_again : tie.Need-loop-preserved invariant-loop decreases-loop
+loop_again : tie.Need-loop-i-preserved invariant-loop decreases-loop
 loop_again c =
     let at-is-exact = c in
     let at-later = at-is-exact.before in
@@ -103,45 +103,45 @@ loop_again c =
     let args = at-start.args in
     let zoneOf-is = zone_of args.offset0 args.ats.now args.offsets.now in
     let ruleAt-is = rule_at args.book.now args.rule in (
-      filling_next zoneOf-is ruleAt-is args.d.0 _ _ _ _ _ at-loop.loop.invariant.0
-          (omega (arith, at-rule-points.rule-points.ensures, at-start.requires.2)) (omega (arith, at-rule-points.rule-points.ensures)) _
-          (omega (arith, at-rule-points.rule-points.ensures.0, at-loop-test.loop-test.true)) at-later.later.ensures (ap
-          (λ (b : Boundary). b.at.0)
-          (at-to-utc-at.to-utc-at.ensures ∙ ap (λ (x : ℕ). boundary_at zoneOf-is args.d.0 x Exact) at-point-time.point-time.ensures.0)),
-      clear_next zoneOf-is ruleAt-is args.d.0 _ _ _ at-loop.loop.invariant.1 _ (ap (λ (b : Boundary). b.uncertainty)
-          (at-to-utc-at.to-utc-at.ensures ∙ ap (λ (x : ℕ). boundary_at zoneOf-is args.d.0 x Exact) at-point-time.point-time.ensures.0))
-          at-is-exact.is-exact.ensures,
+      filling_next zoneOf-is ruleAt-is args.d.0 _ _ _ _ _ at-loop.loop-i.invariant.0
+          (omega (arith, at-rule-points.rule_points-n.ensures, at-start.requires.2)) (omega (arith, at-rule-points.rule_points-n.ensures)) _
+          (omega (arith, at-rule-points.rule_points-n.ensures.0, at-loop-test.loop-i-test.true)) at-later.later-before.ensures (ap
+          (λ (b : Boundary). b.at-1.0)
+          (at-to-utc-at.to_utc_at-own.ensures ∙ ap (λ (x : ℕ). boundary_at zoneOf-is args.d.0 x Exact) at-point-time.point_time.ensures.0)),
+      clear_next zoneOf-is ruleAt-is args.d.0 _ _ _ at-loop.loop-i.invariant.1 _ (ap (λ (b : Boundary). b.uncertainty)
+          (at-to-utc-at.to_utc_at-own.ensures ∙ ap (λ (x : ℕ). boundary_at zoneOf-is args.d.0 x Exact) at-point-time.point_time.ensures.0))
+          at-is-exact.is_exact-clear.ensures,
     )
 
-midnight_after_requires : tie.Need-midnight-after-requires invariant-loop decreases-loop
+midnight_after_requires : tie.Need-midnight_after-midnight-requires invariant-loop decreases-loop
 midnight_after_requires c κs =
     let at-start = c.before.before.before.before.before.before.before in
     at-start.requires.0
 
-later_requires_2 : tie.Need-later-requires-2 invariant-loop decreases-loop
+later_requires_2 : tie.Need-later-requires invariant-loop decreases-loop
 later_requires_2 c κs = tt
 
-mul_edges_2 : tie.Need-overflow-mul-edges-2 invariant-loop decreases-loop
+mul_edges_2 : tie.Need-offset_bounds-edges-n invariant-loop decreases-loop
 mul_edges_2 c =
     let at-loop = c.before.before.before.before in
     let at-rule-points = at-loop.before in
     let at-start = at-rule-points.before.before.before.before.before in
-    let n = at-rule-points.rule-points.ensures in let l = at-loop.loop.invariant.0.long in let p = at-start.requires.2 in omega (arith, n.2, l, p)
+    let n = at-rule-points.rule_points-n.ensures in let l = at-loop.loop-i.invariant.0.long in let p = at-start.requires.2 in omega (arith, n.2, l, p)
 
-slice_write_edges_2 : tie.Need-slice-write-edges-2 invariant-loop decreases-loop
+slice_write_edges_2 : tie.Need-bounds-edges-n invariant-loop decreases-loop
 slice_write_edges_2 c =
     let at-loop = c.before.before.before.before in
     let at-rule-points = at-loop.before in
     let at-start = at-rule-points.before.before.before.before.before in
-    let n = at-rule-points.rule-points.ensures in let l = at-loop.loop.invariant.0.long in let p = at-start.requires.2 in omega (arith, n.2, l, p)
+    let n = at-rule-points.rule_points-n.ensures in let l = at-loop.loop-i.invariant.0.long in let p = at-start.requires.2 in omega (arith, n.2, l, p)
 
-is_exact_requires_2 : tie.Need-is-exact-requires-2 invariant-loop decreases-loop
+is_exact_requires_2 : tie.Need-is_exact-requires invariant-loop decreases-loop
 is_exact_requires_2 c κs = tt
 
-same_length : tie.Need-same-length invariant-loop decreases-loop
+same_length : tie.Need-shape_of-edges invariant-loop decreases-loop
 same_length c =
     let at-loop = c.before.before.before.before.before in
-    simp length-set at-loop.loop.invariant.0.long
+    simp length-set at-loop.loop-i.invariant.0.long
 
 returns : tie.Need-returns invariant-loop decreases-loop
 returns c =
@@ -155,11 +155,11 @@ returns c =
     let args = at-start.args in
     let zoneOf-is = zone_of args.offset0 args.ats.now args.offsets.now in
     let ruleAt-is = rule_at args.book.now args.rule in
-    let n = at-rule-points.rule-points.ensures in (
-      filled zoneOf-is ruleAt-is args.d.0 _ _ _ _ _ at-loop.loop.invariant.0 (omega (arith, n, at-start.requires.2)) (omega (arith, n)) _ _ n.0
-          at-loop-test.loop-test.false at-later2.later2.ensures (ap (λ (b : Boundary). b.at.0) at-midnight-after.midnight-after.ensures),
-      clear_all zoneOf-is ruleAt-is args.d.0 _ _ _ at-loop.loop.invariant.1 (omega (arith, n.0, at-loop-test.loop-test.false, at-loop.loop.invariant.0.most)) _
-          (ap (λ (b : Boundary). b.uncertainty) at-midnight-after.midnight-after.ensures) at-is-exact2.is-exact2.ensures,
+    let n = at-rule-points.rule_points-n.ensures in (
+      filled zoneOf-is ruleAt-is args.d.0 _ _ _ _ _ at-loop.loop-i.invariant.0 (omega (arith, n, at-start.requires.2)) (omega (arith, n)) _ _ n.0
+          at-loop-test.loop-i-test.false at-later2.later.ensures (ap (λ (b : Boundary). b.at-1.0) at-midnight-after.midnight_after-midnight.ensures),
+      clear_all zoneOf-is ruleAt-is args.d.0 _ _ _ at-loop.loop-i.invariant.1 (omega (arith, n.0, at-loop-test.loop-i-test.false, at-loop.loop-i.invariant.0.most)) _
+          (ap (λ (b : Boundary). b.uncertainty) at-midnight-after.midnight_after-midnight.ensures) at-is-exact2.is_exact.ensures,
     )
 
 pub boundaries_spec : {M : Type 1} → statement M

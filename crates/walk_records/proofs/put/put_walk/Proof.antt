@@ -32,34 +32,34 @@ At it = it invariant-pieces decreases-pieces
 abbrev entry : At tie.At-pieces → At tie.Start
 entry c = c.before.before.before.before.before.before.before.before.before.before.before
 
-abbrev piece : At tie.After-is-joinable → At tie.After-q
+abbrev piece : At tie.After-is_joinable-joining → At tie.In-Next-2
 piece c = c.before.before.before.before.before.before.before.before.before.before
 
 -- a piece comes
-comes_at : (c : At tie.After-q)
+comes_at : (c : At tie.In-Next-2)
     → let at-pieces = c.before.before.before.before in
     let args = (entry at-pieces).args in
     Coming args.book.now args.offset0 args.ats.now args.offsets.now args.rules.now args.events.now args.hi.0
-    at-pieces.pieces.w c.q.given.0.0 at-pieces.pieces.edges
+    at-pieces.pieces.w c.q-1.given.0.0 at-pieces.pieces.edges-1
 comes_at c =
     let at-pieces = c.before.before.before.before in
-    come _ _ _ (entry at-pieces).requires.0.zone _ _ at-pieces.pieces.invariant.0 c.before.before.next-piece.ensures _ c.q.given.1
+    come _ _ _ (entry at-pieces).requires.0.zone _ _ at-pieces.pieces.invariant.0 c.before.before.next_piece.ensures _ c.q-1.given.1
 
 -- and whether it joins is told
-taken_at : (c : At tie.After-is-joinable)
+taken_at : (c : At tie.After-is_joinable-joining)
     → let at-pieces = (piece c).before.before.before.before in
     let args = (entry at-pieces).args in
     let now = at-pieces.pieces in
-    Taken args.book.now args.offset0 args.ats.now args.offsets.now args.rules.now args.events.now args.hi.0 args.out.now
+    Taken args.book.now args.offset0 args.ats.now args.offsets.now args.rules.now args.events.now args.hi.0 args.out-1.now
     args.at (bytes_left args.book.now args.offset0 args.ats.now args.offsets.now args.rules.now args.events.now args.hi.0
-    at-pieces.before.before.begin.result) now.out now.stand now.head now.place (piece c).q.given.0.0 c.is-joinable.result
+    at-pieces.before.before.begin-opening.result) now.out-1 now.stand now.head now.place (piece c).q-1.given.0.0 c.is_joinable-joining.result
 taken_at c =
     let at-last-of = c.before.before.before in
     let at-pieces = (piece c).before.before.before.before in
-    taken _ _ _ _ _ _ _ (entry at-pieces).pre.0 (comes_at (piece c)) c.before.before.point-phase.ensures.0 c.before.rule-evidence.ensures at-pieces.pieces.inv.1
-    at-last-of.last_of.ensures c.is-joinable.ensures
+    taken _ _ _ _ _ _ _ (entry at-pieces).pre.0 (comes_at (piece c)) c.before.before.point_phase.ensures.0 c.before.rule_evidence.ensures at-pieces.pieces.inv.1
+    at-last-of.last_of.ensures c.is_joinable-joining.ensures
 
-begin_requires : At tie.Need-begin-requires
+begin_requires : At tie.Need-begin-opening-requires
 begin_requires c κs =
     let ready = c.before.before.before.before.before.before.before.before.requires.0 in
     (ready.zone, ready.rules_listed, keeps_blank _)
@@ -68,69 +68,69 @@ pieces_holds : At tie.Need-pieces-init
 pieces_holds c =
     let at-begin = c.before in
     let at-start = at-begin.before.before.before.before.before.before.before.before.before in
-    let begun = at-begin.begin.ensures in
+    let begun = at-begin.begin-opening.ensures in
     (begun.0.stands, begun_writing _ _ _ _ _ _ _ at-start.requires.0 begun.0 _ at-start.requires.1, begun.1)
 
-next_piece_requires : At tie.Need-next-piece-requires
+next_piece_requires : At tie.Need-next_piece-requires
 next_piece_requires c κs = stands_held c.before.pieces.invariant.0
 
-point_phase_requires : At tie.Need-point-phase-requires
+point_phase_requires : At tie.Need-point_phase-requires
 point_phase_requires c κs =
     let fits = (comes_at c.before.before.before.before.before.before.before).fits in
     (fits.listed, fits.point)
 
-rule_evidence_requires : At tie.Need-rule-evidence-requires
+rule_evidence_requires : At tie.Need-rule_evidence-requires
 rule_evidence_requires c κs = (comes_at c.before.before.before.before.before.before.before.before).fits.listed
 
-events_place_requires : At tie.Need-events-place-requires
-events_place_requires c κs = omega (arith, (taken_at c).goes.begin, (entry (piece c).before.before.before.before).good)
+events_place_requires : At tie.Need-events_place-front-requires
+events_place_requires c κs = omega (arith, (taken_at c).goes.begin-opening, (entry (piece c).before.before.before.before).good)
 
-put_events_requires : At tie.Need-put-events-requires
+put_events_requires : At tie.Need-put_events-trail-requires
 put_events_requires c κs =
     let at-events-place = c.before in
     let at-is-joinable = at-events-place.before in
     let ready = (entry (piece at-is-joinable).before.before.before.before).pre.0 in
-    (ready.zone, ready.events_listed, ready.few, its_room (taken_at at-is-joinable) at-events-place.events-place.ensures)
+    (ready.zone, ready.events_listed, ready.few, its_room (taken_at at-is-joinable) at-events-place.events_place-front.ensures)
 
-cast_head_of : At tie.Need-overflow-cast-head-of
+cast_head_of : At tie.Need-overflow_cast-trail
 cast_head_of c =
     let at-put-events = c.before.before.before in
     let at-q = piece at-put-events.before.before.before in
     let at-start = entry at-q.before.before.before.before in
-    omega (arith, at-put-events.put-events.ensures.count, found_few _ _ _ _ _ _ at-start.args.hi.0 at-start.pre.0 _ (comes_at at-q).fits)
+    omega (arith, at-put-events.put_events-trail.ensures.count, found_few _ _ _ _ _ _ at-start.args.hi.0 at-start.pre.0 _ (comes_at at-q).fits)
 
-head_of_requires : At tie.Need-head-of-requires
+head_of_requires : At tie.Need-head_of-new-requires
 head_of_requires c κs =
     let at-q = piece c.before.before.before.before.before.before in
     ((entry at-q.before.before.before.before).pre.0.zone, (comes_at at-q).fits)
 
-told_requires : At tie.Need-told-requires
+told_requires : At tie.Need-told-head-requires
 told_requires c κs =
     let at-head-of = c.before in
     let at-put-events = at-head-of.before.before.before.before in
     its_count (taken_at at-put-events.before.before.before)
-    (ap (λ (h : Phase). h.events) at-head-of.head_of.ensures ∙ at-put-events.put-events.ensures.count)
+    (ap (λ (h : Phase). h.events) at-head-of.head_of-new.ensures ∙ at-put-events.put_events-trail.ensures.count)
 
-put_record_requires : At tie.Need-put-record-requires
+put_record_requires : At tie.Need-put_record-requires
 put_record_requires c κs =
     let at_told = c.before in
     let at-record-place = at_told.before in
     let at-head-of = at-record-place.before in
     let at-put-events = at-head-of.before.before.before.before in
     let at-events-place = at-put-events.before.before in
-    its_record (taken_at at-events-place.before) at-events-place.events-place.ensures at-put-events.put-events.ensures
-    at-head-of.head_of.ensures at-record-place.record-place.ensures at_told.told.ensures
+    its_record (taken_at at-events-place.before) at-events-place.events_place-front.ensures at-put-events.put_events-trail.ensures
+    at-head-of.head_of-new.ensures at-record-place.record_place-stand.ensures at_told.told-head.ensures
 
-after_piece_requires : At tie.Need-after-piece-requires
+after_piece_requires : At tie.Need-after_piece-w-requires
 after_piece_requires c κs =
     let fits = (comes_at (piece c.before.before.before.before.before.before.before.before.before.before.before.before.before)).fits in
     omega (arith, fits.point, (good_rule _ _ fits.listed).few)
 
-pieces_less : At tie.Need-pieces-smaller
+pieces_less : At tie.Need-pieces-smaller-in-Next
 pieces_less c =
-    come_fewer (comes_at (piece c.before.before.before.before.before.before.before.before.before.before.before.before.before.before)) c.after-piece.ensures
+    come_fewer (comes_at (piece c.before.before.before.before.before.before.before.before.before.before.before.before.before.before)) c.after_piece-w.ensures
 
-pieces_again : At tie.Need-pieces-preserved
+pieces_again : At tie.Need-pieces-preserved-in-Next
 pieces_again c =
     let at-put-record = c.before.before.before in
     let at_told = at-put-record.before.before in
@@ -141,14 +141,14 @@ pieces_again c =
     let at-is-joinable = at-events-place.before in
     let at-pieces = (piece at-is-joinable).before.before.before.before in
     let args = (entry at-pieces).args in (
-      stands_on c.after-piece.ensures (comes_at (piece at-is-joinable)).stands,
+      stands_on c.after_piece-w.ensures (comes_at (piece at-is-joinable)).stands,
       written_on args.book.now args.offset0 args.ats.now args.offsets.now args.rules.now args.events.now args.hi.0
-          (written (taken_at at-is-joinable) at-events-place.events-place.ensures at-put-events.put-events.ensures at-head-of.head_of.ensures
-          at-record-place.record-place.ensures at_told.told.ensures at-put-record.put_record.ensures) c.after-piece.ensures,
+          (written (taken_at at-is-joinable) at-events-place.events_place-front.ensures at-put-events.put_events-trail.ensures at-head-of.head_of-new.ensures
+          at-record-place.record_place-stand.ensures at_told.told-head.ensures at-put-record.put_record.ensures) c.after_piece-w.ensures,
       at-pieces.pieces.inv.2,
     )
 
-next_turn_requires : At tie.Need-next-turn-requires
+next_turn_requires : At tie.Need-next_turn-requires
 next_turn_requires c κs =
     let at-enum-told = c.before.before in
     let at-next-piece = at-enum-told.before.before in
@@ -157,29 +157,29 @@ next_turn_requires c κs =
       ready.zone,
       ready.rules_listed,
       at-pieces.pieces.invariant.2,
-      shown _ _ _ ready.zone _ _ at-pieces.pieces.invariant.0 at-next-piece.next-piece.ensures at-enum-told.enum_told.given.1,
+      shown _ _ _ ready.zone _ _ at-pieces.pieces.invariant.0 at-next-piece.next_piece.ensures at-enum-told.enum_told-1.given.1,
     )
 
-pieces_less_2 : At tie.Need-pieces-smaller-2
+pieces_less_2 : At tie.Need-pieces-smaller
 pieces_less_2 c =
     let at_next = c.before in
     let at-next-turn = at_next.before.before in
     let args = (entry at-next-turn.before.before.before.before.before.before.before).args in
     turn_fewer (turning args.book.now args.offset0 args.ats.now args.offsets.now args.rules.now args.events.now args.hi.0 _ _ _
-    at-next-turn.next-turn.ensures.0 at_next.next.given.1)
+    at-next-turn.next_turn.ensures.0 at_next.next-1.given.1)
 
-pieces_again_2 : At tie.Need-pieces-preserved-2
+pieces_again_2 : At tie.Need-pieces-preserved
 pieces_again_2 c =
     let at_next = c.before in
     let at-next-turn = at_next.before.before in
     let at-pieces = at-next-turn.before.before.before.before.before.before.before in
     let args = (entry at-pieces).args in
     let on = turning args.book.now args.offset0 args.ats.now args.offsets.now args.rules.now args.events.now args.hi.0 _ _ _
-    at-next-turn.next-turn.ensures.0 at_next.next.given.1 in (
+    at-next-turn.next_turn.ensures.0 at_next.next-1.given.1 in (
       on.stands,
       turn_written args.book.now args.offset0 args.ats.now args.offsets.now args.rules.now args.events.now args.hi.0
           at-pieces.pieces.invariant.1 on,
-      at-next-turn.next-turn.ensures.1,
+      at-next-turn.next_turn.ensures.1,
     )
 
 returns : At tie.Need-returns
@@ -187,12 +187,12 @@ returns c =
     let at-next-turn = c.before.before in
     let at-pieces = at-next-turn.before.before.before.before.before.before.before in
     let args = (entry at-pieces).args in
-    walk_put _ _ _ _ _ _ _ (entry at-pieces).requires.0 at-pieces.before.before.begin.ensures.0 at-pieces.pieces.invariant.1
+    walk_put _ _ _ _ _ _ _ (entry at-pieces).requires.0 at-pieces.before.before.begin-opening.ensures.0 at-pieces.pieces.invariant.1
     (done_left args.book.now args.offset0 args.ats.now args.offsets.now args.rules.now args.events.now args.hi.0 _ _ _
-    at-next-turn.next-turn.ensures.0 c.enum-told2.given.1)
+    at-next-turn.next_turn.ensures.0 c.enum_told-in-Done-next_turn-1.given.1)
 
-same_length : At tie.Need-same-length
-same_length c = (returns c).kept
+same_length : At tie.Need-shape_of-out
+same_length c = (returns c).kept-1
 
 pub put_walk_spec : {M : Type 1} → statement M
 put_walk_spec =

@@ -37,72 +37,72 @@ abbrev entry : At tie.At-pieces → At tie.Start
 entry c = c.before.before.before.before.before.before.before.before.before
 
 -- the piece at hand, from where its phase is read
-abbrev piece : At tie.After-point-phase → At tie.After-q
+abbrev piece : At tie.After-point_phase-phase → At tie.In-Next-2
 piece c = c.before.before.before.before.before.before.before
 
 -- it comes
-comes_at : (c : At tie.After-q)
+comes_at : (c : At tie.In-Next-2)
     → let at-pieces = c.before.before.before.before in
     let args = (entry at-pieces).args in
     Coming args.book.now args.offset0 args.ats.now args.offsets.now args.rules.now args.events.now args.hi.0
-    at-pieces.pieces.w c.q.given.0.0 at-pieces.pieces.edges
+    at-pieces.pieces.w c.q-1.given.0.0 at-pieces.pieces.edges-1
 comes_at c =
     let at-pieces = c.before.before.before.before in
-    come _ _ _ (entry at-pieces).requires.zone _ _ at-pieces.pieces.invariant.0 c.before.before.next-piece.ensures _ c.q.given.1
+    come _ _ _ (entry at-pieces).requires.zone _ _ at-pieces.pieces.invariant.0 c.before.before.next_piece.ensures _ c.q-1.given.1
 
-begin_requires : At tie.Need-begin-requires
+begin_requires : At tie.Need-begin-opening-requires
 begin_requires c κs =
     let ready = c.before.before.before.before.before.before.before.requires in
     (ready.zone, ready.rules_listed, keeps_blank _)
 
 pieces_holds : At tie.Need-pieces-init
 pieces_holds c =
-    let begun = c.begin.ensures in
+    let begun = c.begin-opening.ensures in
     let ready = c.before.before.before.before.before.before.before.before.requires in
     (begun.0.stands, size_start _ (begun_few _ _ _ _ _ _ _ ready begun.0), begun.1)
 
-next_piece_requires : At tie.Need-next-piece-requires
+next_piece_requires : At tie.Need-next_piece-requires
 next_piece_requires c κs = stands_held c.before.pieces.invariant.0
 
-point_phase_requires : At tie.Need-point-phase-requires
+point_phase_requires : At tie.Need-point_phase-phase-requires
 point_phase_requires c κs =
     let fits = (comes_at c.before.before.before.before.before.before).fits in
     (fits.listed, fits.point)
 
-rule_evidence_requires : At tie.Need-rule-evidence-requires
+rule_evidence_requires : At tie.Need-rule_evidence-evidence-requires
 rule_evidence_requires c κs = (comes_at (piece c)).fits.listed
 
-count_events_requires : At tie.Need-count-events-requires
+count_events_requires : At tie.Need-count_events-count-requires
 count_events_requires c κs =
     let ready = (entry (piece c.before.before.before).before.before.before.before).pre in
     (ready.zone, ready.events_listed, ready.few)
 
 -- what is counted, and what a piece adds, is small
-add_size : At tie.Need-overflow-add-size
+add_size : At tie.Need-overflow_add-size
 add_size c =
     let at-record-size = c.before in
     let at-pieces = (piece at-record-size.before.before.before).before.before.before.before in
-    omega (arith, at-pieces.pieces.inv.1.few, at-record-size.record-size.ensures.1)
+    omega (arith, at-pieces.pieces.inv.1.few, at-record-size.record_size-record.ensures.1)
 
-mul_size : At tie.Need-overflow-mul-size
-mul_size c = omega (arith, c.count-events.ensures.1)
+mul_size : At tie.Need-overflow_mul-size
+mul_size c = omega (arith, c.count_events-count.ensures.1)
 
-add_size_2 : At tie.Need-overflow-add-size-2
+add_size_2 : At tie.Need-overflow_add-size-in-Next
 add_size_2 c =
     let at-record-size = c.before in
     let at-pieces = (piece at-record-size.before.before.before).before.before.before.before in
-    omega (arith, c.count-events.ensures.1, at-pieces.pieces.inv.1.few, at-record-size.record-size.ensures.1)
+    omega (arith, c.count_events-count.ensures.1, at-pieces.pieces.inv.1.few, at-record-size.record_size-record.ensures.1)
 
-after_piece_requires : At tie.Need-after-piece-requires
+after_piece_requires : At tie.Need-after_piece-w-requires
 after_piece_requires c κs =
     let fits = (comes_at (piece c.before.before.before.before)).fits in
     omega (arith, fits.point, (good_rule _ _ fits.listed).few)
 
-pieces_less : At tie.Need-pieces-smaller
+pieces_less : At tie.Need-pieces-smaller-in-Next
 pieces_less c =
-    come_fewer (comes_at (piece c.before.before.before.before.before)) c.after-piece.ensures
+    come_fewer (comes_at (piece c.before.before.before.before.before)) c.after_piece-w.ensures
 
-pieces_again : At tie.Need-pieces-preserved
+pieces_again : At tie.Need-pieces-preserved-in-Next
 pieces_again c =
     let at-count-events = c.before in
     let at-record-size = at-count-events.before in
@@ -112,15 +112,15 @@ pieces_again c =
     let at-q = piece at-point-phase in
     let at-pieces = at-q.before.before.before.before in
     let args = (entry at-pieces).args in (
-      stands_on c.after-piece.ensures (comes_at at-q).stands,
+      stands_on c.after_piece-w.ensures (comes_at at-q).stands,
       sized_on args.book.now args.offset0 args.ats.now args.offsets.now args.rules.now args.events.now args.hi.0
-          (sized _ _ _ _ _ _ _ (entry at-pieces).pre (comes_at at-q) at-point-phase.point-phase.ensures.0
-          at-rule-evidence.rule-evidence.ensures at-pieces.pieces.inv.1 at-is-joinable.is-joinable.ensures at-record-size.record-size.ensures.0
-          at-count-events.count-events.ensures.0 refl) c.after-piece.ensures,
+          (sized _ _ _ _ _ _ _ (entry at-pieces).pre (comes_at at-q) at-point-phase.point_phase-phase.ensures.0
+          at-rule-evidence.rule_evidence-evidence.ensures at-pieces.pieces.inv.1 at-is-joinable.is_joinable.ensures at-record-size.record_size-record.ensures.0
+          at-count-events.count_events-count.ensures.0 refl) c.after_piece-w.ensures,
       at-pieces.pieces.inv.2,
     )
 
-next_turn_requires : At tie.Need-next-turn-requires
+next_turn_requires : At tie.Need-next_turn-requires
 next_turn_requires c κs =
     let at-enum-told = c.before.before in
     let at-next-piece = at-enum-told.before.before in
@@ -129,39 +129,39 @@ next_turn_requires c κs =
       ready.zone,
       ready.rules_listed,
       at-pieces.pieces.invariant.2,
-      shown _ _ _ ready.zone _ _ at-pieces.pieces.invariant.0 at-next-piece.next-piece.ensures at-enum-told.enum_told.given.1,
+      shown _ _ _ ready.zone _ _ at-pieces.pieces.invariant.0 at-next-piece.next_piece.ensures at-enum-told.enum_told-1.given.1,
     )
 
-pieces_less_2 : At tie.Need-pieces-smaller-2
+pieces_less_2 : At tie.Need-pieces-smaller
 pieces_less_2 c =
     let at_next = c.before in
     let at-next-turn = at_next.before.before in
     let args = (entry at-next-turn.before.before.before.before.before.before.before).args in
     turn_fewer (turning args.book.now args.offset0 args.ats.now args.offsets.now args.rules.now args.events.now args.hi.0 _ _ _
-    at-next-turn.next-turn.ensures.0 at_next.next.given.1)
+    at-next-turn.next_turn.ensures.0 at_next.next-1.given.1)
 
-pieces_again_2 : At tie.Need-pieces-preserved-2
+pieces_again_2 : At tie.Need-pieces-preserved
 pieces_again_2 c =
     let at_next = c.before in
     let at-next-turn = at_next.before.before in
     let at-pieces = at-next-turn.before.before.before.before.before.before.before in
     let args = (entry at-pieces).args in
     let on = turning args.book.now args.offset0 args.ats.now args.offsets.now args.rules.now args.events.now args.hi.0 _ _ _
-    at-next-turn.next-turn.ensures.0 at_next.next.given.1 in (
+    at-next-turn.next_turn.ensures.0 at_next.next-1.given.1 in (
       on.stands,
       turn_sized args.book.now args.offset0 args.ats.now args.offsets.now args.rules.now args.events.now args.hi.0
           at-pieces.pieces.invariant.1 on,
-      at-next-turn.next-turn.ensures.1,
+      at-next-turn.next_turn.ensures.1,
     )
 
 returns : At tie.Need-returns
 returns c =
     let at-next-turn = c.before.before in
     let at-pieces = at-next-turn.before.before.before.before.before.before.before in
-    let begun = begun_spans _ _ _ _ _ _ _ (entry at-pieces).requires at-pieces.before.begin.ensures.0 in
+    let begun = begun_spans _ _ _ _ _ _ _ (entry at-pieces).requires at-pieces.before.begin-opening.ensures.0 in
     let args = (entry at-pieces).args in
     let done = done_left args.book.now args.offset0 args.ats.now args.offsets.now args.rules.now args.events.now args.hi.0 _ _ _
-    at-next-turn.next-turn.ensures.0 c.enum-told2.given.1 in
+    at-next-turn.next_turn.ensures.0 c.enum_told-in-Done-next_turn-1.given.1 in
     let all = size_end at-pieces.pieces.invariant.1 done in
     (all.0 ∙ ap (λ (l : List (Span Shown)). length (encode_all (phase_forms l))) (sym begun), all.1)
 

@@ -8,7 +8,7 @@ returns c =
     let high = c.before.before in
     let low = high.before.before.before.before in
     let start = low.before.before.before in
-    halves 1 start.args.x low.put1.ensures high.put12.ensures start.requires
+    halves 1 start.args.x low.put1-next.ensures high.put1.ensures start.requires
 
 pub put2_spec : {M : Type 1} → statement M
 put2_spec =

@@ -8,7 +8,7 @@ returns c =
     let high = c.before.before in
     let low = high.before.before.before.before in
     let start = low.before.before.before in
-    halves 2 start.args.x low.put2.ensures high.put22.ensures start.requires
+    halves 2 start.args.x low.put2-next.ensures high.put2.ensures start.requires
 
 pub put4_spec : {M : Type 1} → statement M
 put4_spec =

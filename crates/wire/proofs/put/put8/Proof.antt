@@ -8,7 +8,7 @@ returns c =
     let high = c.before.before in
     let low = high.before.before.before.before in
     let start = low.before.before.before in
-    halves 4 start.args.x low.put4.ensures high.put42.ensures start.requires
+    halves 4 start.args.x low.put4-next.ensures high.put4.ensures start.requires
 
 pub put8_spec : {M : Type 1} → statement M
 put8_spec =

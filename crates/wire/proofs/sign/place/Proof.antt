@@ -3,34 +3,34 @@ use Rattle.std.proofs.Common.{sym, arith, w64, rules}
 use Rattle.wire.proofs.sign.place.Statement.{statement}
 use Rattle.wire.proofs.sign.place.Tie as tie
 
-cast_t6 : tie.Need-overflow-cast-t6
+cast_t6 : tie.Need-overflow_cast-result
 cast_t6 c =
-    let b = negative w64 c.before.args.x c.before.ranges.x c.if1.true in
+    let b = negative w64 c.before.args.x c.before.ranges.x c.if-x-lt0.true in
     rw b.1 (tt, omega arith)
 
-sub_t7 : tie.Need-overflow-sub-t7
+sub_t7 : tie.Need-overflow_sub-result-then-x-lt0
 sub_t7 c =
-    let b = negative w64 c.before.args.x c.before.ranges.x c.if1.true in
+    let b = negative w64 c.before.args.x c.before.ranges.x c.if-x-lt0.true in
     rw b.1 (omega arith)
 
-cast_t8 : tie.Need-overflow-cast-t8
+cast_t8 : tie.Need-overflow_cast-result-else-x-lt0
 cast_t8 c =
-    let b = natural w64 c.before.args.x c.before.ranges.x c.if1.false in
+    let b = natural w64 c.before.args.x c.before.ranges.x c.if-x-lt0.false in
     rw b.1 (tt, omega arith)
 
-add_t9 : tie.Need-overflow-add-t9
+add_t9 : tie.Need-overflow_add-result
 add_t9 c =
-    let b = natural w64 c.before.args.x c.before.ranges.x c.if1.false in
+    let b = natural w64 c.before.args.x c.before.ranges.x c.if-x-lt0.false in
     rw b.1 (omega arith)
 
-returns : tie.Need-returns
+returns : tie.Need-returns-then-x-lt0
 returns c =
-    let b = negative w64 c.before.args.x c.before.ranges.x c.if1.true in
+    let b = negative w64 c.before.args.x c.before.ranges.x c.if-x-lt0.true in
     rw b.1 (omega arith)
 
-returns_2 : tie.Need-returns-2
+returns_2 : tie.Need-returns-else-x-lt0
 returns_2 c =
-    let b = natural w64 c.before.args.x c.before.ranges.x c.if1.false in
+    let b = natural w64 c.before.args.x c.before.ranges.x c.if-x-lt0.false in
     rw b.1 (sym b.3)
 
 pub place_spec : {M : Type 1} → statement M

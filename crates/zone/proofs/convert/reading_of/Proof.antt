@@ -8,7 +8,7 @@ returns : tie.Need-returns
 returns c =
     let at-nearest = c.before in
     let args = at-nearest.before.before.before.args in
-    reading_by (zone_of args.offset0 args.ats.now args.offsets.now) args.t.0 _ _ at-nearest.nearest.ensures c.offset_at.ensures.0
+    reading_by (zone_of args.offset0 args.ats.now args.offsets.now) args.t.0 _ _ at-nearest.nearest-u.ensures c.offset_at-offset.ensures.0
 
 pub reading_of_spec : {M : Type 1} → statement M
 reading_of_spec =

@@ -2,11 +2,11 @@ use Rattle.std.proofs.Common.{arith, rules}
 use Rattle.zone.proofs.convert.taken.Statement.{statement}
 use Rattle.zone.proofs.convert.taken.Tie as tie
 
-returns_3 : tie.Need-returns-3
-returns_3 c = rw c.before.before.before.before.before.before.r3.given.1 (omega arith)
+returns_3 : tie.Need-returns-then-before-after
+returns_3 c = rw c.before.before.before.before.before.before.r-in-Gap-1.given.1 (omega arith)
 
-returns_4 : tie.Need-returns-4
-returns_4 c = rw c.before.before.before.before.before.before.r3.given.1 (omega arith)
+returns_4 : tie.Need-returns-else-before-after
+returns_4 c = rw c.before.before.before.before.before.before.r-in-Gap-1.given.1 (omega arith)
 
 pub taken_spec : {M : Type 1} → statement M
 taken_spec =

@@ -11,7 +11,7 @@ returns c =
     let at-reading-at = at-to-utc.before in
     let args = at-reading-at.before.before.before.args in
     boundary_by (zone_of args.offset0 args.ats.now args.offsets.now) args.d.0 args.time _ args.published _ _ _
-    at-reading-at.reading-at.ensures at-to-utc.to-utc.ensures at-taken.taken.ensures c.uncertain.ensures
+    at-reading-at.reading_at.ensures at-to-utc.to_utc-r.ensures at-taken.taken-at.ensures c.uncertain-uncertainty.ensures
 
 pub to_utc_at_spec : {M : Type 1} → statement M
 to_utc_at_spec =

@@ -2,7 +2,7 @@ use Rattle.std.proofs.Common.{◌≡◌, ℕ, suc, ◌-◌, ◌∷◌, get_or, a
 use Rattle.zone.proofs.search.last_at.Statement.{statement}
 use Rattle.zone.proofs.search.last_at.Tie as tie
 
-returns_2 : tie.Need-returns-2
+returns_2 : tie.Need-returns
 returns_2 c =
     let args = c.before.before.args in
     let z : suc (args.count - 1) ≡ args.count = omega arith in

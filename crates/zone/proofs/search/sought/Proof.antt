@@ -10,8 +10,8 @@ bisected_requires c κs =
     let at-if1 = at-last-at.before in
     let at-guess = at-if1.before in
     let args = at-guess.before.before.args in
-    between_one args.ats.now args.t at-guess.guess.result _ _ at-if1.if1.true at-last-at.last-at.ensures
-    at-next-at.next-at.ensures c.if2.true
+    between_one args.ats.now args.t at-guess.guess-even.result _ _ at-if1.if-even-n.true at-last-at.last_at.ensures
+    at-next-at.next_at.ensures c.if-last_at-t.true
 
 bisected_requires_2 : tie.Need-bisected-requires-2
 bisected_requires_2 c κs = let at-start = c.before.before.before in between_all at-start.args.ats.now _ (omega (arith, at-start.ranges.t))
