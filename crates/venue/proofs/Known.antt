@@ -23,7 +23,7 @@ use Rattle.venue.specs.Opening.{coverage_of, header_of, venue_of, opened, rule_p
 use Rattle.venue.specs.declared.opened.Header.{Header}
 use Rattle.venue.specs.declared.opened.Opened.{Opened}
 use Rattle.venue.specs.declared.opened.Opened.TheVariants.{Refused, Empty, Venue}
-use Rattle.venue.proofs.Header.{no_records, Head, head}
+use Rattle.venue.proofs.Headers.{no_records, Head, head}
 use Rattle.venue.proofs.Laws.{rules_count, events_count}
 
 -- ---- the cases of opening

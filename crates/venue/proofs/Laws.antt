@@ -18,7 +18,7 @@ use Rattle.venue.specs.Opening.{offset_of, coverage_of, rules_of, events_of, ats
 use Rattle.venue.proofs.Passing.{Ahead, Next, ahead_start, by_records, no_records, no_places, one_record, one_place, no_place, places_many, few_records}
 use Rattle.venue.specs.Reading.{Listed, AllListed, GoodCoverage, GoodRule, GoodEvent, ListedRule, ListedEvent}
 use Rattle.venue.proofs.Listing.{day_value, rule_fields, rule_each, rule_rises, event_fields, event_each}
-use Rattle.venue.proofs.Header.{head}
+use Rattle.venue.proofs.Headers.{head}
 use Rattle.venue.proofs.Changes.{Chain, covers_good, changes_valid}
 
 -- ---- a rule or event that is listed is good

@@ -1,5 +1,5 @@
 pub mod Passing
-pub mod Header
+pub mod Headers
 pub mod Listing
 pub mod Changes
 pub mod Laws

@@ -12,7 +12,7 @@ returns c =
     let at-day-on = at-d.before.before in
     let at-start = at-day-on.before in
     let on = ap found (sym at-d.d-1.given.1) ∙ at-day-on.day_on.ensures in
-    at-number-of.number_of_lem.ensures ∙ date_within at-start.args.year at-start.args.month at-start.args.day _ (sym on) ∙ on
+    at-number-of.number_of.ensures ∙ date_within at-start.args.year at-start.args.month at-start.args.day _ (sym on) ∙ on
 
 returns_2 : tie.Need-returns-in-NoDay
 returns_2 c =

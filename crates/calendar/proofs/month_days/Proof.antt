@@ -11,7 +11,7 @@ returns : tie.Need-returns-then-m-gt12
 returns c =
     let at-if1 = c in
     let at-start = at-if1.before in
-    (sym (no_month at-start.args.leap-year at-start.args.month at-if1.if-m-gt12.true), omega arith)
+    (sym (no_month at-start.args.leap_year at-start.args.month at-if1.if-m-gt12.true), omega arith)
 
 returns_2 : tie.Need-returns-then-leap_year
 unfolding month_days

@@ -16,14 +16,14 @@ decreases-loop leap-year day m₀ m = 13 - m
 loop_holds : tie.Need-loop-m-init invariant-loop decreases-loop
 loop_holds c =
     let at-start = c in
-    omega (arith, none (month_days at-start.args.leap-year) 1)
+    omega (arith, none (month_days at-start.args.leap_year) 1)
 
 loop_again : tie.Need-loop-m-preserved invariant-loop decreases-loop
 loop_again c =
     let at-loop = c.before.before in
     let at-start = at-loop.before in
     let m = at-loop.loop-m.m in
-    let size = month_days at-start.args.leap-year in
+    let size = month_days at-start.args.leap_year in
     let z : m + 1 - 1 ≡ m = omega arith in
     let y : m - 1 + 1 ≡ m = omega arith in
     let held : total size 1 m ≤ at-start.args.day = omega (arith, ap (total size 1) z) in
@@ -36,7 +36,7 @@ returns c =
     let at-start = at-loop.before in
     let m = at-loop.loop-m.m in
     let z : m + 1 - 1 ≡ m = omega arith in
-    omega (arith, ap (total (month_days at-start.args.leap-year) 1) z)
+    omega (arith, ap (total (month_days at-start.args.leap_year) 1) z)
 
 pub month_of_spec : {M : Type 1} → statement M
 month_of_spec =

@@ -28,7 +28,7 @@ returns_3 c =
     let at-unplace4 = c in
     let at-start = at-unplace4.before.before.before in
     let n = at-start.args.d.0 in
-    let fits : SFits w32 at-unplace4.unplace4.result = record { sfits = at-unplace4.unplace4.type-inv } in
+    let fits : SFits w32 at-unplace4.unplace4.result = record { sfits = at-unplace4.unplace4.type_inv } in
     ap some (to_z-of_z fits ∙ at-unplace4.unplace4.ensures) ∙ sym (ap within (day_placed n) ∙ within_yes (n + day_zero) (omega arith) (omega arith))
 
 pub number_of_spec : {M : Type 1} → statement M

@@ -43,13 +43,13 @@ mul_t15 : At tie.Need-offset_bounds-when-next
 mul_t15 c = omega (arith, kept c, (entry c).requires.0)
 
 shared_slice_read_t17 : At tie.Need-bounds-when-next
-shared_slice_read_t17 c = omega (arith, kept c.before, (entry c.before).pre.0)
+shared_slice_read_t17 c = omega (arith, kept c.before, (entry c.before).requires.0)
 
 mul_event : At tie.Need-offset_bounds-which-next
-mul_event c = omega (arith, kept c.before, (entry c.before).pre.1)
+mul_event c = omega (arith, kept c.before, (entry c.before).requires.1)
 
 shared_slice_read_event : At tie.Need-bounds-which-next
-shared_slice_read_event c = omega (arith, kept (turn c), (entry (turn c)).pre.1)
+shared_slice_read_event c = omega (arith, kept (turn c), (entry (turn c)).requires.1)
 
 cast_event : At tie.Need-overflow_cast-event
 cast_event c = let e = its_event (turn c) in omega (arith, e.small, e.frame)
@@ -70,7 +70,7 @@ add_next_kept : At tie.Need-overflow_add-next
 add_next_kept c = omega (arith, kept (written c.before.before))
 
 next_kept_requires_2 : At tie.Need-next_kept-next-requires-in-loop-i
-next_kept_requires_2 c κs = (entry (written c.before.before)).pre.0
+next_kept_requires_2 c κs = (entry (written c.before.before)).requires.0
 
 add_i : At tie.Need-overflow_add-i
 add_i c = omega (arith, (written c.before.before.before).loop-i-test.taken)

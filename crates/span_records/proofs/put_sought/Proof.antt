@@ -63,7 +63,7 @@ add_search_events c =
 
 search_events_requires_2 : At tie.Need-search_events-next-requires
 search_events_requires_2 c κs =
-    let pre = (turn (written c.before.before)).before.before.before.before.before.before.before.before.pre in
+    let pre = (turn (written c.before.before)).before.before.before.before.before.before.before.before.requires in
     (pre.0, pre.1, pre.2)
 
 add_i : At tie.Need-overflow_add-i

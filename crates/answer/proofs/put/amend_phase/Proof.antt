@@ -7,7 +7,7 @@ use Rattle.answer.proofs.put.amend_phase.Statement.{statement}
 use Rattle.answer.proofs.put.amend_phase.Tie as tie
 
 returns : tie.Need-returns
-unfolding Answers.uncertaintyBytes
+unfolding Answers.uncertainty_bytes
 returns c =
     let at-put4 = c.before.before in
     let at-put-uncertainty = at-put4.before.before.before.before in

@@ -8,7 +8,7 @@ use Rattle.answer.proofs.put.begin_phase.Statement.{statement}
 use Rattle.answer.proofs.put.begin_phase.Tie as tie
 
 returns : tie.Need-returns
-unfolding Answers.uncertaintyBytes
+unfolding Answers.uncertainty_bytes
 returns c =
     let at-put-boundary = c.before.before in
     let at-put-rule = at-put-boundary.before.before.before.before in

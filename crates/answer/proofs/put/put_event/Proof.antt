@@ -7,7 +7,7 @@ use Rattle.answer.proofs.put.put_event.Statement.{statement}
 use Rattle.answer.proofs.put.put_event.Tie as tie
 
 returns : tie.Need-returns
-unfolding Answers.uncertaintyBytes
+unfolding Answers.uncertainty_bytes
 returns c =
     let at-put22 = c.before.before in
     let at-put-boundary = at-put22.before.before.before.before in

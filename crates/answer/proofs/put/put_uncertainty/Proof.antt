@@ -6,7 +6,7 @@ use Rattle.answer.proofs.put.put_uncertainty.Statement.{statement}
 use Rattle.answer.proofs.put.put_uncertainty.Tie as tie
 
 returns : tie.Need-returns
-unfolding Answers.uncertaintyBytes
+unfolding Answers.uncertainty_bytes
 returns c =
     let at-put2 = c.before.before in
     let at-put82 = at-put2.before.before.before.before in

@@ -28,21 +28,21 @@ loop_holds c = let pre = c.before.requires in (pre.2, fill_start _ pre.0 _ _ _ _
 returns : At tie.Need-returns-then-limit-column
 returns c =
     let l = turn c.before.before in
-    let pre = (entry l).pre in
+    let pre = (entry l).requires in
     (l.loop-column.inv.0, fill_limit _ pre.0 _ _ _ _ pre.3 _ _ l.loop-column.inv.1 _ l.loop-column.inv.0.at c.if-limit-column.true)
 
 add_out : At tie.Need-overflow_add-out
-add_out c = let at-if1 = c.before.before.before in omega (arith, at-if1.loop-column-test.true, (entry (turn at-if1)).pre.0.few)
+add_out c = let at-if1 = c.before.before.before in omega (arith, at-if1.loop-column-test.true, (entry (turn at-if1)).requires.0.few)
 
 slice_write_out : At tie.Need-bounds-out-c
 slice_write_out c =
     let at-if1 = c.before.before.before in
-    omega (arith, at-if1.loop-column-test.true, (entry (turn at-if1)).pre.3, (turn at-if1).loop-column.invariant.1.kept)
+    omega (arith, at-if1.loop-column-test.true, (entry (turn at-if1)).requires.3, (turn at-if1).loop-column.invariant.1.kept)
 
 next_column_requires : At tie.Need-next_column-column-requires
 next_column_requires c κs =
     let at-if1 = c.before.before.before in
-    let pre = (entry (turn at-if1)).pre in
+    let pre = (entry (turn at-if1)).requires in
     (pre.0, pre.1, (turn at-if1).loop-column.invariant.0, at-if1.loop-column-test.true)
 
 loop_less : At tie.Need-loop-column-smaller
@@ -53,7 +53,7 @@ loop_again c =
     let at-if2 = c.before.before in
     let at-if1 = at-if2.before.before in
     let l = turn at-if1 in
-    let pre = (entry l).pre in (
+    let pre = (entry l).requires in (
       c.next_column-column.ensures.0,
       fill_one _ pre.0 _ _ _ _ pre.3 _ _ l.loop-column.inv.1 at-if1.loop-column-test.true _ l.loop-column.inv.0.at at-if2.if-limit-column.false
           _ c.before.cell_or.ensures _ c.next_column-column.ensures.1,

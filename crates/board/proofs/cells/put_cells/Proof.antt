@@ -95,7 +95,7 @@ loop_less_2 c =
     let at-fill2 = at-fill3.before.before.before.before.before in
     let at-read-segment = at-fill2.before.before.before.before in
     let after = end_after (here at-read-segment.before) at-read-segment.read_segment-g.ensures in
-    omega (arith, inside at-read-segment, after, at-fill2.fill-held.ensures.1.after, at-fill3.fill-column-else-at-row.ensures.1.after, c.end_of_lem.ensures)
+    omega (arith, inside at-read-segment, after, at-fill2.fill-held.ensures.1.after, at-fill3.fill-column-else-at-row.ensures.1.after, c.end_of-at.ensures)
 
 loop_again_2 : At tie.Need-loop-column-preserved
 loop_again_2 c =
@@ -109,7 +109,7 @@ loop_again_2 c =
     let drawn =
     draw_on _ pre.1 _ _ pre.2 _ _ _ at-loop.loop-column.invariant.1 _ at-read-segment.read_segment-g.ensures (here at-if2)
     _ _ _ _ _ at-fill2.fill-held.ensures.1 at-glyph-of.glyph_of.ensures at-fill3.fill-column-else-at-row.ensures.1 in
-    (at-fill3.fill-column-else-at-row.ensures.0, rw c.end_of_lem.ensures drawn)
+    (at-fill3.fill-column-else-at-row.ensures.0, rw c.end_of-at.ensures drawn)
 
 returns : At tie.Need-returns
 returns c =

@@ -23,7 +23,7 @@ many c = c.columns_of-many.ensures ∙ ap columns_of (to_z-of_z w64 (entry c).ar
 
 -- the row is good
 good : (c : tie.Else-not-good_row) → good_row (entry c.before.before.before).args.row.now ≡ true
-good c = sym c.before.good_row.ensures ∙ not-false _ c.if-not-good_row.false
+good c = sym c.before.good_row.ensures ∙ c.if-not-good_row.false
 
 -- where there is room, and the grid that is filled
 abbrev roomy : tie.After-put_cells → tie.Else-out-length
@@ -48,7 +48,7 @@ returns_2 c =
     let at-if1 = at-good-row.before in
     let args = (entry at-if1.before).args in
     told_bad _ _ _ args.columns args.marked args.at.0 _ _ _ (many at-if1.before) at-if1.if-many-gt-MOST.false
-    (sym at-good-row.good_row.ensures ∙ not-true _ at-if2.if-not-good_row.true) c.refused-then-not-good_row.ensures
+    (sym at-good-row.good_row.ensures ∙ at-if2.if-not-good_row.true) c.refused-then-not-good_row.ensures
 
 returns_3 : tie.Need-returns-then-out-length
 returns_3 c =
@@ -63,7 +63,7 @@ put_cells_requires c κs =
     let at-if1 = at-if3.before.before.before in
     let at-start = entry at-if1.before in (
       good at-if3.before,
-      good_grid _ _ _ _ at-start.args.columns (many at-if1.before) at-if1.if-many-gt-MOST.false at-start.pre (omega arith),
+      good_grid _ _ _ _ at-start.args.columns (many at-if1.before) at-if1.if-many-gt-MOST.false at-start.requires (omega arith),
       omega (arith, at-if3.if-out-length.false, length-set at-start.args.out-1.now 0 91),
     )
 

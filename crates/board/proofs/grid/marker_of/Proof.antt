@@ -8,7 +8,7 @@ returns : tie.Need-returns-then-not-marked
 returns c =
     let at-start = c.before in
     let args = at-start.args in
-    marker_none args.start.0 args.end.0 args.columns args.marked args.at.0 (not-true _ c.if-not-marked.true)
+    marker_none args.start.0 args.end.0 args.columns args.marked args.at.0 c.if-not-marked.true
 
 returns_2 : tie.Need-returns-then-at-start
 returns_2 c =
@@ -27,7 +27,7 @@ returns_4 c =
     let at-if1 = at-if2.before.before.before in
     let at-start = at-if1.before in
     let args = at-start.args in
-    marker_in args.start.0 args.end.0 args.columns args.marked args.at.0 (not-false _ at-if1.if-not-marked.false) at-if2.if-at-start.false
+    marker_in args.start.0 args.end.0 args.columns args.marked args.at.0 at-if1.if-not-marked.false at-if2.if-at-start.false
     at-if3.if-end-at.false _ c.share.ensures
 
 pub marker_of_spec : {M : Type 1} → statement M

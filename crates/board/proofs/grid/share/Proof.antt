@@ -22,7 +22,7 @@ entry c = c.before.before
 
 -- the term is small while something is left
 term : (c : At tie.In-loop-left) → Small (entry c.before).args.span c.before.loop-left.term
-term c = let pre = (entry c.before).pre in term_small _ _ _ pre.0 pre.1 _ _ _ c.before.loop-left.invariant c.loop-left-test.true
+term c = let pre = (entry c.before).requires in term_small _ _ _ pre.0 pre.1 _ _ _ c.before.loop-left.invariant c.loop-left-test.true
 
 mul_result : At tie.Need-overflow_mul-result
 mul_result c = omega (arith, short_fits _ _ c.if-gone-le-SHORT.true c.before.requires.1)

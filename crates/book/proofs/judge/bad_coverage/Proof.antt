@@ -7,7 +7,7 @@ use Rattle.book.proofs.judge.bad_coverage.Statement.{statement}
 use Rattle.book.proofs.judge.bad_coverage.Tie as tie
 
 returns : tie.Need-returns
-unfolding Signs.meant Book.badFields
+unfolding Signs.meant Book.bad_fields
 returns c =
     let at-outside4 = c in
     let at-outside82 = at-outside4.before in

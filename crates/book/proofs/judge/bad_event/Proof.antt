@@ -17,7 +17,7 @@ get1_requires c κs =
     let p = at-count-place.count_place.ensures.0 in omega arith
 
 returns : tie.Need-returns
-unfolding Book.badFields
+unfolding Book.bad_fields
 returns c =
     let at-bad-uncertainty = c in
     let at-bad-days = at-bad-uncertainty.before in

@@ -19,11 +19,11 @@ returns c =
     let at-item-time = c.before.before in
     let at-start = at-item-time.before.before in
     item_time_only at-start.args.book.now at-start.args.at at-start.args.kind _
-    (sym c.before.is_rule.ensures ∙ not-true _ c.if-not-is_rule.true) at-item-time.item_time-time.ensures
+    (sym c.before.is_rule.ensures ∙ c.if-not-is_rule.true) at-item-time.item_time-time.ensures
 
 -- a point: its phase stands in the bytes
 is_rule_law : (c : tie.Else-not-is_rule) → is_rule c.before.before.before.before.args.kind ≡ true
-is_rule_law c = sym c.before.is_rule.ensures ∙ not-false _ c.if-not-is_rule.false
+is_rule_law c = sym c.before.is_rule.ensures ∙ c.if-not-is_rule.false
 
 room : (c : tie.After-time_place)
     → let args = c.before.before.before.before.before.args in args.at + c.time_place.result + step rule_kind ≤ length args.book.now

@@ -7,7 +7,7 @@ use Rattle.book.proofs.judge.bad_transition.Statement.{statement}
 use Rattle.book.proofs.judge.bad_transition.Tie as tie
 
 returns : tie.Need-returns
-unfolding Signs.meant Book.badFields
+unfolding Signs.meant Book.bad_fields
 returns c =
     let at-outside4 = c in
     let at-outside8 = at-outside4.before in

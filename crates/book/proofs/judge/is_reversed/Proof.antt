@@ -14,11 +14,11 @@ returns : tie.Need-returns-then-not-is_dated
 returns c =
     let at-start = c.before.before.before in
     never_reversed at-start.args.book.now at-start.args.at at-start.args.kind at-start.requires.0 at-start.requires.1
-    (sym c.before.is_dated.ensures ∙ not-true _ c.if-not-is_dated.true)
+    (sym c.before.is_dated.ensures ∙ c.if-not-is_dated.true)
 
 -- a rule or an event: both its days stand in the bytes
 dated : (c : tie.Else-not-is_dated) → is_dated c.before.before.before.args.kind ≡ true
-dated c = sym c.before.is_dated.ensures ∙ not-false _ c.if-not-is_dated.false
+dated c = sym c.before.is_dated.ensures ∙ c.if-not-is_dated.false
 
 room : (c : tie.Else-not-is_dated) → let args = c.before.before.before.args in args.at + rule_code.from ≤ length args.book.now
 room c =

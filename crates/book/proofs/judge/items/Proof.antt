@@ -15,11 +15,11 @@ returns : tie.Need-returns-then-not-is_dated
 returns c =
     let at-start = c.before.before.before in
     few_items at-start.args.book.now at-start.args.at at-start.args.kind at-start.requires.0 at-start.requires.1
-    (sym c.before.is_dated.ensures ∙ not-true _ c.if-not-is_dated.true)
+    (sym c.before.is_dated.ensures ∙ c.if-not-is_dated.true)
 
 -- a rule or an event: n stands in the bytes
 dated : (c : tie.Else-not-is_dated) → is_dated c.before.before.before.args.kind ≡ true
-dated c = sym c.before.is_dated.ensures ∙ not-false _ c.if-not-is_dated.false
+dated c = sym c.before.is_dated.ensures ∙ c.if-not-is_dated.false
 
 room : (c : tie.After-count_place)
     → let args = c.before.before.before.before.args in args.at + c.count_place.result + 1 ≤ length args.book.now

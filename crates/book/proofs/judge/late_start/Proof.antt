@@ -11,10 +11,10 @@ returns : tie.Need-returns-then-not-is_rule
 returns c =
     let at-start = c.before.before.before in
     never_late at-start.args.book.now at-start.args.at at-start.args.kind at-start.requires.0 at-start.requires.1
-    (sym c.before.is_rule.ensures ∙ not-true _ c.if-not-is_rule.true)
+    (sym c.before.is_rule.ensures ∙ c.if-not-is_rule.true)
 
 is_rule_law : (c : tie.Else-not-is_rule) → is_rule c.before.before.before.args.kind ≡ true
-is_rule_law c = sym c.before.is_rule.ensures ∙ not-false _ c.if-not-is_rule.false
+is_rule_law c = sym c.before.is_rule.ensures ∙ c.if-not-is_rule.false
 
 returns_2 : tie.Need-returns-then-items-eq0
 returns_2 c =

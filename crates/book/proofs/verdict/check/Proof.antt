@@ -171,7 +171,7 @@ add_item c =
     let at-points-test = c.before.before.before.before in
     let looking = looking_at at-points-test.before in
     let r = item_inside looking at-points-test.points-test.true in
-    let e = c.step_of_lem.ensures in
+    let e = c.step_of-item.ensures in
     omega (arith, looking.known.here.small)
 
 add_i : At tie.Need-overflow_add-i
@@ -187,7 +187,7 @@ points_again c =
     let at-bad-item = at-if9.before in
     let at-points-test = at-bad-item.before in
     look_on (looking_at at-points-test.before) _ _ at-points-test.points-test.true (sym at-bad-item.bad_item.ensures ∙ at-if9.if-bad_item.false)
-    at-item-time.item_time-time.ensures c.step_of_lem.ensures.0
+    at-item-time.item_time-time.ensures c.step_of-item.ensures.0
 
 late_start_requires : At tie.Need-late_start-requires
 late_start_requires c κs = let n = (looking_at c.before).known in (n.frame, n.kind)

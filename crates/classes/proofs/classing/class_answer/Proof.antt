@@ -50,7 +50,7 @@ returns_3 c =
     let at-t = at_place.before.before in
     let only = tells at-row-class at-shown.shown-1.given.1 in
     let instant = at_place.place.ensures ∙ ap (placed w64) (to_z-of_z w64 _ at-t.before.before.before.before.ranges.at) in
-    judged at-t (class_told _ _ (row_begin _ ∙ only.good) (c.number_of_lem.ensures ∙ ap class_number (only.shown-1 ∙ ap (class_at _) instant)))
+    judged at-t (class_told _ _ (row_begin _ ∙ only.good) (c.number_of.ensures ∙ ap class_number (only.shown-1 ∙ ap (class_at _) instant)))
 
 returns_4 : tie.Need-returns-in-More
 returns_4 c =

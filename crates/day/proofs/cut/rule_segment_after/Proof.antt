@@ -121,7 +121,7 @@ point_time_requires : At tie.Need-point_time-requires
 point_time_requires c κs = ((start c).requires.1, omega (arith, c.rule_points-n.ensures))
 
 to_utc_at_requires : At tie.Need-to_utc_at-begin-requires
-to_utc_at_requires c κs = (start c.before).pre.0
+to_utc_at_requires c κs = (start c.before).requires.0
 
 loop_holds : At tie.Need-loop-i-init
 loop_holds c =
@@ -129,10 +129,10 @@ loop_holds c =
     (omega (arith, p.rule_points-n.ensures.1), filled_first (zone_in p) (rule_in p) (day_in p) _ refl (converted p (day_in p) c.to_utc_at-begin.ensures c.before.point_time.ensures.0))
 
 point_time_requires_2 : At tie.Need-point_time-requires-in-loop-i
-point_time_requires_2 c κs = ((start (counted c)).pre.1, omega (arith, (counted c).rule_points-n.ensures.0, within c))
+point_time_requires_2 c κs = ((start (counted c)).requires.1, omega (arith, (counted c).rule_points-n.ensures.0, within c))
 
 to_utc_at_requires_2 : At tie.Need-to_utc_at-own-requires
-to_utc_at_requires_2 c κs = (start (counted c.before)).pre.0
+to_utc_at_requires_2 c κs = (start (counted c.before)).requires.0
 
 sub_raised : At tie.Need-overflow_sub-i
 sub_raised c = omega (arith, within c.before.before)
@@ -169,7 +169,7 @@ loop_again c =
     )
 
 midnight_after_requires : At tie.Need-midnight_after-midnight-requires
-midnight_after_requires c κs = (start c.before.before.before.before).pre.0
+midnight_after_requires c κs = (start c.before.before.before.before).requires.0
 
 sub_raised_2 : At tie.Need-overflow_sub-n
 sub_raised_2 c = omega (arith, c.before.before.before.before.before.rule_points-n.ensures)
@@ -207,7 +207,7 @@ array_copy_out_end c = omega (arith, within2 c.before)
 point_phase_requires : At tie.Need-point_phase-requires
 point_phase_requires c κs =
     let l = c.before.before.before.before in
-    ((start (counted2 (ready l))).pre.1, omega (arith, within2 l))
+    ((start (counted2 (ready l))).requires.1, omega (arith, within2 l))
 
 returns : At tie.Need-returns-then-ends_after
 returns c =
@@ -218,7 +218,7 @@ returns c =
     let held = tested_by (stored (ready l)) t _ (first_read l _) (second_read l _) at-ends-after.ends_after.ensures c.before.if-ends_after.true in (
       scan_answer (zone_in p) (rule_in p) (day_in p) _ t (all (ready l)) _ (omega (arith, within2 l)) l.before.loop-k.invariant.1 held
           (first_read l _) (second_read l _) c.point_phase.ensures.0,
-      ((start p).pre.1, refl),
+      ((start p).requires.1, refl),
     )
 
 add_k : At tie.Need-overflow_add-k

@@ -75,7 +75,7 @@ add_t15 : tie.Need-overflow_add-tomorrow
 add_t15 c =
     let at-day-at = c.before.before in
     let s = start at-day-at in
-    omega (arith, at-day-at.day_at-today.ensures, date_small s.args.offset0 s.args.ats.now s.args.offsets.now s.args.t.0 s.pre.0)
+    omega (arith, at-day-at.day_at-today.ensures, date_small s.args.offset0 s.args.ats.now s.args.offsets.now s.args.t.0 s.requires.0)
 
 day_holding_requires : tie.Need-day_holding-requires
 day_holding_requires c κs = (start c.before.before).requires

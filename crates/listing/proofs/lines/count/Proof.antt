@@ -48,12 +48,12 @@ end_of_requires : At tie.Need-end_of-at-requires
 end_of_requires c κs = omega (arith, inside c, short c)
 
 loop_less : At tie.Need-loop-at-smaller
-loop_less c = omega (arith, after c.before, inside c.before, c.end_of_lem.ensures)
+loop_less c = omega (arith, after c.before, inside c.before, c.end_of-at.ensures)
 
 loop_again : At tie.Need-loop-at-preserved
 loop_again c =
     let l = c.before.before in
-    rw c.end_of_lem.ensures (count_one l.before.loop-at.invariant (here l) c.before.read_segment-g.ensures)
+    rw c.end_of-at.ensures (count_one l.before.loop-at.invariant (here l) c.before.read_segment-g.ensures)
 
 returns : At tie.Need-returns
 returns c = count_over c.before.loop-at.invariant c.loop-at-test.false

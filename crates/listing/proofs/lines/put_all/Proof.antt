@@ -50,7 +50,7 @@ end_of_requires c κs =
 loop_less : At tie.Need-loop-from-smaller
 loop_less c =
     let at-read-segment = c.before.before.before.before.before in
-    omega (arith, inside at-read-segment, end_after (here at-read-segment.before) at-read-segment.read_segment-g.ensures, c.end_of_lem.ensures)
+    omega (arith, inside at-read-segment, end_after (here at-read-segment.before) at-read-segment.read_segment-g.ensures, c.end_of-from.ensures)
 
 loop_again : At tie.Need-loop-from-preserved
 loop_again c =
@@ -58,7 +58,7 @@ loop_again c =
     let at-read-segment = at-put-segment.before.before in
     let l = at-read-segment.before in
     let e = at-read-segment.read_segment-g.ensures in
-    rw c.end_of_lem.ensures (row_on (here l) e, goes_on (list_one l.before.loop-from.invariant.1 (here l) e) at-put-segment.put_segment-place.ensures)
+    rw c.end_of-from.ensures (row_on (here l) e, goes_on (list_one l.before.loop-from.invariant.1 (here l) e) at-put-segment.put_segment-place.ensures)
 
 returns : At tie.Need-returns
 returns c = list_over c.before.before.before.before.args.answer.now _ c.before.loop-from.invariant.1 c.loop-from-test.false

@@ -18,7 +18,7 @@ entry c = c.before.before.before
 
 -- it does
 queried : (c : tie.Else-not-is_query) → framed query_kind query_length (entry c.before).args.input.now 0 ≡ true
-queried c = sym c.before.is_query.ensures ∙ not-false _ c.if-not-is_query.false
+queried c = sym c.before.is_query.ensures ∙ c.if-not-is_query.false
 
 -- and holds it
 holds : (c : tie.Else-not-is_query) → query_size ≤ length (entry c.before).args.input.now
@@ -37,7 +37,7 @@ returns_2 : tie.Need-returns-then-not-is_query
 returns_2 c =
     let at-if2 = c.before.before in
     let at-is-query = at-if2.before in
-    told (no_query _ (omega (arith, at-is-query.before.if-input-gt-MOST_BYTES.false)) (sym at-is-query.is_query.ensures ∙ not-true _ at-if2.if-not-is_query.true))
+    told (no_query _ (omega (arith, at-is-query.before.if-input-gt-MOST_BYTES.false)) (sym at-is-query.is_query.ensures ∙ at-if2.if-not-is_query.true))
     c.put_head-then-not-is_query.ensures (omega arith)
 
 signed8_requires : tie.Need-signed8-requires

@@ -48,7 +48,7 @@ returns : (t : ℕ) → At t places.Need-returns
 returns t c =
     let at-put-digit = c.before.before in
     let at-if1 = at-put-digit.before.before in
-    rw (decimal_one at-if1.before.before.args.n at-if1.if1.true) at-put-digit.put-digit.ensures
+    rw (decimal_one at-if1.before.before.args.n at-if1.if1.true) at-put-digit.put_digit.ensures
 
 put_decimal_requires : (t : ℕ) → At t places.Need-put-decimal-requires
 put_decimal_requires t c κs =
@@ -58,14 +58,14 @@ put_decimal_requires t c κs =
 put_digit_requires_2 : (t : ℕ) → At t places.Need-put-digit-requires-2
 put_digit_requires_2 t c κs =
     let at-put-decimal = c.before.before.before in
-    (omega arith, rest (fits at-put-decimal.before.before) at-put-decimal.put-decimal.ensures)
+    (omega arith, rest (fits at-put-decimal.before.before) at-put-decimal.put_decimal.ensures)
 
 returns_2 : (t : ℕ) → At t places.Need-returns-2
 returns_2 t c =
     let at-put-digit2 = c.before.before in
     let at-put-decimal = at-put-digit2.before.before.before.before in
     let at-if1 = at-put-decimal.before.before in
-    rw (more at-if1) (both (fits at-if1) at-put-decimal.put-decimal.ensures at-put-digit2.put-digit2.ensures)
+    rw (more at-if1) (both (fits at-if1) at-put-decimal.put_decimal.ensures at-put-digit2.put-digit2.ensures)
 
 pub +put_decimal_spec : {M : Type 1} → statement M
 +put_decimal_spec = close μ_put_decimal λ t. places.spec (put-digit.Asked, put-digit.Learnt, put_decimal_below t, put-decimal.Post)

@@ -57,10 +57,10 @@ loop_holds : At tie.Need-loop-i-init
 loop_holds c = (omega arith, refl)
 
 point_time_requires : At tie.Need-point_time-requires
-point_time_requires c κs = ((entry c.before).pre.1, more c)
+point_time_requires c κs = ((entry c.before).requires.1, more c)
 
 to_utc_at_requires : At tie.Need-to_utc_at-own-requires
-to_utc_at_requires c κs = (entry c.before.before).pre.0
+to_utc_at_requires c κs = (entry c.before.before).requires.0
 
 returns : At tie.Need-returns-then-at-before
 returns c =

@@ -32,7 +32,7 @@ steady c r h i j =
     let s = entry c in
     record {
       most = i;
-      run = λ e a b. until_plain s.args.book.now s.args.offset0 s.args.ats.now s.args.offsets.now s.args.rules.now s.pre.0 s.pre.1
+      run = λ e a b. until_plain s.args.book.now s.args.offset0 s.args.ats.now s.args.offsets.now s.args.rules.now s.requires.0 s.requires.1
           s.args.d.0 e a (omega (arith, b, j, c.steady_until-until.ensures));
       stops = λ l. absurd (omega (arith, h, l));
     }
@@ -55,13 +55,13 @@ returns_3 : tie.Need-returns-then-is_plain_date
 returns_3 c =
     let at-is-plain-date = c.before.before in
     let s = entry at-is-plain-date.before.before.before.before.before.before.before in
-    look_plain (zone_in s) (rules_in s) s.args.d.0 s.args.last.0 s.pre.2 (sym at-is-plain-date.is_plain_date.ensures ∙ c.before.if-is_plain_date.true)
+    look_plain (zone_in s) (rules_in s) s.args.d.0 s.args.last.0 s.requires.2 (sym at-is-plain-date.is_plain_date.ensures ∙ c.before.if-is_plain_date.true)
 
 returns_4 : tie.Need-returns
 returns_4 c =
     let at-is-plain-date = c.before in
     let s = entry at-is-plain-date.before.before.before.before.before.before.before in
-    look_not (zone_in s) (rules_in s) s.args.d.0 s.args.last.0 s.pre.2 (sym at-is-plain-date.is_plain_date.ensures ∙ c.if-is_plain_date.false)
+    look_not (zone_in s) (rules_in s) s.args.d.0 s.args.last.0 s.requires.2 (sym at-is-plain-date.is_plain_date.ensures ∙ c.if-is_plain_date.false)
 
 pub plain_until_spec : {M : Type 1} → statement M
 plain_until_spec =

@@ -57,7 +57,7 @@ loop_holds : At tie.Need-loop-date-init
 loop_holds c = (omega arith, refl)
 
 plain_until_requires : At tie.Need-plain_until-next-requires
-plain_until_requires c κs = let pre = (entry c.before.before.before).pre in (pre.0, pre.1, c.loop-date-test.true)
+plain_until_requires c κs = let pre = (entry c.before.before.before).requires in (pre.0, pre.1, c.loop-date-test.true)
 
 returns : At tie.Need-returns-then-next-date
 returns c =
@@ -68,7 +68,7 @@ returns c =
     (left_stops (zone_in s) (rules_in s) s.args.end.0 _ _ _ at-plain-until.before.loop-date-test.true at-plain-until.plain_until-next.ensures c.if-next-date.true)
 
 to_utc_at_requires : At tie.Need-to_utc_at-opening-requires
-to_utc_at_requires c κs = (entry (turn c.before.before.before.before)).pre.0
+to_utc_at_requires c κs = (entry (turn c.before.before.before.before)).requires.0
 
 returns_2 : At tie.Need-returns-then-end-at
 returns_2 c =

@@ -13,10 +13,10 @@ use Rattle.rows.proofs.judge.good_event.Tie as tie
 returns : tie.Need-returns-then-not-framed
 returns c =
     let args = c.before.before.before.args in
-    event_unframed args.bytes.now args.at (sym c.before.framed.ensures ∙ not-true _ c.if-not-framed.true)
+    event_unframed args.bytes.now args.at (sym c.before.framed.ensures ∙ c.if-not-framed.true)
 
 stands : (c : tie.Else-not-framed) → let args = c.before.before.before.args in framed event_kind event_length args.bytes.now args.at ≡ true
-stands c = sym c.before.framed.ensures ∙ not-false _ c.if-not-framed.false
+stands c = sym c.before.framed.ensures ∙ c.if-not-framed.false
 
 get1_requires : tie.Need-get1-requires
 get1_requires c κs =

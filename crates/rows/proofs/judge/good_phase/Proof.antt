@@ -16,10 +16,10 @@ use Rattle.rows.proofs.judge.good_phase.Tie as tie
 returns : tie.Need-returns-then-not-framed
 returns c =
     let args = c.before.before.before.args in
-    phase_unframed args.bytes.now args.at (sym c.before.framed.ensures ∙ not-true _ c.if-not-framed.true)
+    phase_unframed args.bytes.now args.at (sym c.before.framed.ensures ∙ c.if-not-framed.true)
 
 stands : (c : tie.Else-not-framed) → let args = c.before.before.before.args in framed phase_kind phase_length args.bytes.now args.at ≡ true
-stands c = sym c.before.framed.ensures ∙ not-false _ c.if-not-framed.false
+stands c = sym c.before.framed.ensures ∙ c.if-not-framed.false
 
 whole : (c : tie.Else-not-framed) → let args = c.before.before.before.args in args.at + size.width + phase_length ≤ length args.bytes.now
 whole c = let args = c.before.before.before.args in (framed_holds args.bytes.now args.at phase_kind phase_length (stands c)).0

@@ -62,7 +62,7 @@ stretch_requires c κs =
     let at-q = piece at-point-phase in
     let at-pieces = at-q.before.before.before.before in
     walked_coming _ _ _ _ _ _ at-pieces.pieces.inv.1 (comes_at at-q) at-point-phase.point_phase-phase.ensures at-pieces.before.begin-opening.ensures.0
-    (entry at-pieces).pre.2
+    (entry at-pieces).requires.2
 
 after_piece_requires : At tie.Need-after_piece-w-requires
 after_piece_requires c κs =

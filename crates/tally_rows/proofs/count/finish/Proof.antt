@@ -18,7 +18,7 @@ put_tally_requires : tie.Need-put_tally-requires
 put_tally_requires c κs =
     let at-put-day = c.before.before.before.before.before in
     let at-stretch = counted at-put-day in
-    ending_tally at-stretch.stretch-last.ensures at-stretch.before.before.before.before.before.pre at-put-day.put_day-at.ensures
+    ending_tally at-stretch.stretch-last.ensures at-stretch.before.before.before.before.before.requires at-put-day.put_day-at.ensures
 
 returns : tie.Need-returns
 returns c =

@@ -30,11 +30,11 @@ turns c =
     let at-shift2 = counts c in
     let at-part2 = at-shift2.before in
     let at_rows = at-part2.before.before in
-    coming_turn (entry at_rows).pre at_rows.rows.inv at-part2.part-in-rows.ensures at-shift2.shift-in-rows.ensures (omega (arith, c.if-to-b.false))
+    coming_turn (entry at_rows).requires at_rows.rows.inv at-part2.part-in-rows.ensures at-shift2.shift-in-rows.ensures (omega (arith, c.if-to-b.false))
 
 -- an instant is a number of 64 bits
 small : (c : At tie.Start) → c.args.end.0 < 2 ^ 64
-small c = let h = c.well-formed.1.1.1.0 in omega (arith, h)
+small c = let h = c.well_formed.1.1.1.0 in omega (arith, h)
 
 shift_requires : At tie.Need-shift-requires
 shift_requires c κs = let at-start = c.before.before.before in coming_whole at-start.requires c.part.ensures (small at-start)
@@ -50,7 +50,7 @@ put_day_requires c κs =
     let at-shift2 = counts at-if1 in
     let at-part2 = at-shift2.before in
     let at_rows = at-part2.before.before in
-    coming_room (entry at_rows).pre at_rows.rows.inv at-part2.part-in-rows.ensures at-shift2.shift-in-rows.ensures (omega (arith, at-if1.if-to-b.false))
+    coming_room (entry at_rows).requires at_rows.rows.inv at-part2.part-in-rows.ensures at-shift2.shift-in-rows.ensures (omega (arith, at-if1.if-to-b.false))
 
 sub_renew : At tie.Need-overflow_sub-next
 sub_renew c =

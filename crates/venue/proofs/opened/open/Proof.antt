@@ -5,7 +5,7 @@ use Prim.Native.Nat.{ℕ}
 use Rattle.records.specs.Limits.{base}
 use Rattle.records.specs.Book.{refusal}
 use Rattle.records.specs.Layout.{rule_kind, event_kind}
-use Rattle.venue.proofs.Header.{refused_answer, refused_kept, accepted_stored, nothing_stored, empty_answer, empty_places, empty_ats, empty_offsets, Head, head, venue_answer}
+use Rattle.venue.proofs.Headers.{refused_answer, refused_kept, accepted_stored, nothing_stored, empty_answer, empty_places, empty_ats, empty_offsets, Head, head, venue_answer}
 use borrow.Author.Rules.{rules}
 use Rattle.venue.proofs.opened.open.Statement.{statement}
 use Rattle.venue.proofs.opened.open.Tie as tie

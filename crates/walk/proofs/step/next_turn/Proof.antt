@@ -17,7 +17,7 @@ use Rattle.walk.proofs.step.next_turn.Tie as tie
 
 -- the venue walked over
 abbrev venue_in : tie.Start → Venue Held
-venue_in c = venue_by (zone_of c.args.offset0 c.args.ats.now c.args.offsets.now) (Governing.governingRule (map (rule_at c.args.book.now) c.args.rules.now))
+venue_in c = venue_by (zone_of c.args.offset0 c.args.ats.now c.args.offsets.now) (Governing.governing_rule (map (rule_at c.args.book.now) c.args.rules.now))
 
 -- another turn begins later, and one is left
 further : (c : tie.Else-next-began)

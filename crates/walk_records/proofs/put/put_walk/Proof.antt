@@ -56,7 +56,7 @@ taken_at : (c : At tie.After-is_joinable-joining)
 taken_at c =
     let at-last-of = c.before.before.before in
     let at-pieces = (piece c).before.before.before.before in
-    taken _ _ _ _ _ _ _ (entry at-pieces).pre.0 (comes_at (piece c)) c.before.before.point_phase.ensures.0 c.before.rule_evidence.ensures at-pieces.pieces.inv.1
+    taken _ _ _ _ _ _ _ (entry at-pieces).requires.0 (comes_at (piece c)) c.before.before.point_phase.ensures.0 c.before.rule_evidence.ensures at-pieces.pieces.inv.1
     at-last-of.last_of.ensures c.is_joinable-joining.ensures
 
 begin_requires : At tie.Need-begin-opening-requires
@@ -89,7 +89,7 @@ put_events_requires : At tie.Need-put_events-trail-requires
 put_events_requires c κs =
     let at-events-place = c.before in
     let at-is-joinable = at-events-place.before in
-    let ready = (entry (piece at-is-joinable).before.before.before.before).pre.0 in
+    let ready = (entry (piece at-is-joinable).before.before.before.before).requires.0 in
     (ready.zone, ready.events_listed, ready.few, its_room (taken_at at-is-joinable) at-events-place.events_place-front.ensures)
 
 cast_head_of : At tie.Need-overflow_cast-trail
@@ -97,12 +97,12 @@ cast_head_of c =
     let at-put-events = c.before.before.before in
     let at-q = piece at-put-events.before.before.before in
     let at-start = entry at-q.before.before.before.before in
-    omega (arith, at-put-events.put_events-trail.ensures.count, found_few _ _ _ _ _ _ at-start.args.hi.0 at-start.pre.0 _ (comes_at at-q).fits)
+    omega (arith, at-put-events.put_events-trail.ensures.count, found_few _ _ _ _ _ _ at-start.args.hi.0 at-start.requires.0 _ (comes_at at-q).fits)
 
 head_of_requires : At tie.Need-head_of-new-requires
 head_of_requires c κs =
     let at-q = piece c.before.before.before.before.before.before in
-    ((entry at-q.before.before.before.before).pre.0.zone, (comes_at at-q).fits)
+    ((entry at-q.before.before.before.before).requires.0.zone, (comes_at at-q).fits)
 
 told_requires : At tie.Need-told-head-requires
 told_requires c κs =

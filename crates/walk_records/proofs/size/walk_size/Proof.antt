@@ -74,7 +74,7 @@ rule_evidence_requires c κs = (comes_at (piece c)).fits.listed
 
 count_events_requires : At tie.Need-count_events-count-requires
 count_events_requires c κs =
-    let ready = (entry (piece c.before.before.before).before.before.before.before).pre in
+    let ready = (entry (piece c.before.before.before).before.before.before.before).requires in
     (ready.zone, ready.events_listed, ready.few)
 
 -- what is counted, and what a piece adds, is small
@@ -114,7 +114,7 @@ pieces_again c =
     let args = (entry at-pieces).args in (
       stands_on c.after_piece-w.ensures (comes_at at-q).stands,
       sized_on args.book.now args.offset0 args.ats.now args.offsets.now args.rules.now args.events.now args.hi.0
-          (sized _ _ _ _ _ _ _ (entry at-pieces).pre (comes_at at-q) at-point-phase.point_phase-phase.ensures.0
+          (sized _ _ _ _ _ _ _ (entry at-pieces).requires (comes_at at-q) at-point-phase.point_phase-phase.ensures.0
           at-rule-evidence.rule_evidence-evidence.ensures at-pieces.pieces.inv.1 at-is-joinable.is_joinable.ensures at-record-size.record_size-record.ensures.0
           at-count-events.count_events-count.ensures.0 refl) c.after_piece-w.ensures,
       at-pieces.pieces.inv.2,

@@ -37,18 +37,18 @@ loop_holds c = (c.passed-k.ensures.most, λ a h. h)
 returns : At tie.Need-returns-then-to-at
 returns c =
     let l = c.before.before.before in
-    sym (ahead_late (start l.before).pre (ahead l.before) l.loop-k-test.true c.if-to-at.true)
+    sym (ahead_late (start l.before).requires (ahead l.before) l.loop-k-test.true c.if-to-at.true)
 
 sub_t12 : At tie.Need-overflow_sub-at
 sub_t12 c =
     let l = c.before.before.before in
-    omega (arith, ahead_at (start l.before).pre (ahead l.before) l.loop-k-test.true)
+    omega (arith, ahead_at (start l.before).requires (ahead l.before) l.loop-k-test.true)
 
 reads_on_requires : At tie.Need-reads_on-requires
-reads_on_requires c κs = (start c.before.before.before.before).pre
+reads_on_requires c κs = (start c.before.before.before.before).requires
 
 reads_on_requires_2 : At tie.Need-reads_on-requires-in-loop-k
-reads_on_requires_2 c κs = (start c.before.before.before.before.before).pre
+reads_on_requires_2 c κs = (start c.before.before.before.before.before).requires
 
 returns_2 : At tie.Need-returns-then-not-reads_on
 returns_2 c =
@@ -57,7 +57,7 @@ returns_2 c =
     let at-if1 = at-reads-on.before in
     let l = at-if1.before.before.before in
     sym
-    (ahead_stops (start l.before).pre (ahead l.before) l.loop-k-test.true at-if1.if-to-at.false at-reads-on.reads_on.ensures
+    (ahead_stops (start l.before).requires (ahead l.before) l.loop-k-test.true at-if1.if-to-at.false at-reads-on.reads_on.ensures
     at-reads-on2.reads_on-in-loop-k.ensures c.if-not-reads_on.true)
 
 add_k : At tie.Need-overflow_add-k
@@ -74,7 +74,7 @@ loop_again c =
     let l = at-if1.before.before.before in
     let inside = l.loop-k-test.true in (
       omega (arith, inside),
-      λ a h. ahead_goes (start l.before).pre (l.before.loop-k.invariant.1 a h) inside at-if1.if-to-at.false at-reads-on.reads_on.ensures
+      λ a h. ahead_goes (start l.before).requires (l.before.loop-k.invariant.1 a h) inside at-if1.if-to-at.false at-reads-on.reads_on.ensures
           at-reads-on2.reads_on-in-loop-k.ensures c.if-not-reads_on.false,
     )
 

@@ -37,7 +37,7 @@ returns_3 c =
     let k = at_passed.passed-count.result in
     let next = subst (λ (r : ℕ). r ≤ high s) at-next-at.next_at.ensures c.if-next_at-to.true in
     let near = next_near s.args.ats.now k (high s) next (omega arith) in
-    let some = none_false (low s) (high s) k _ _ s.pre.spaced s.pre.alike at_passed.passed-count.ensures near.0 near.1 in
+    let some = none_false (low s) (high s) k _ _ s.requires.spaced s.requires.alike at_passed.passed-count.ensures near.0 near.1 in
     sym (steady_not (zone_in s) _ _ at-if1.if-from-lt-FIRST_TRANSITION.false at-if2.if-to-gt-LAST_TRANSITION.false some)
 
 returns_4 : tie.Need-returns
@@ -51,8 +51,8 @@ returns_4 c =
     let k = at_passed.passed-count.result in
     let next = subst (λ (r : ℕ). high s < r) at-next-at.next_at.ensures at-if3.if-next_at-to.false in
     let far = next_far s.args.ats.now k (high s) next in
-    let none = none_true (low s) (high s) k _ _ s.pre.spaced at_passed.passed-count.ensures (omega arith) (omega arith) far in
-    let is = offset_passed (low s) s.args.offset0 k _ _ s.pre.spaced s.pre.alike at_passed.passed-count.ensures in
+    let none = none_true (low s) (high s) k _ _ s.requires.spaced at_passed.passed-count.ensures (omega arith) (omega arith) far in
+    let is = offset_passed (low s) s.args.offset0 k _ _ s.requires.spaced s.requires.alike at_passed.passed-count.ensures in
     ap By c.offset_after.ensures ∙ sym (steady_by (zone_in s) _ _ _ at-if1.if-from-lt-FIRST_TRANSITION.false at-if2.if-to-gt-LAST_TRANSITION.false none is)
 
 pub steady_offset_spec : {M : Type 1} → statement M

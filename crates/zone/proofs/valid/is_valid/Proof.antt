@@ -35,7 +35,7 @@ goes : (c : At tie.Else-not-least-at)
 goes c =
     let l = c.before.before.before.before in
     let args = (start l).args in
-    valid_goes l.loop-i.least args.ats.now args.offsets.now l.loop-i.i (omega arith) (omega arith) (not-false _ c.if-not-least-at.false)
+    valid_goes l.loop-i.least args.ats.now args.offsets.now l.loop-i.i (omega arith) (omega arith) c.if-not-least-at.false
 
 returns : At tie.Need-returns-then-offset0-gt-OFFSET_MOST
 returns c = simp (lt-leb _ _ c.if-offset0-gt-OFFSET_MOST.true)
@@ -53,7 +53,7 @@ returns_3 c =
     let l = c.before.before.before.before in
     let args = (start l).args in
     let stops =
-    valid_stops l.loop-i.least args.ats.now args.offsets.now l.loop-i.i (omega arith) (omega arith) (not-true _ c.if-not-least-at.true) in
+    valid_stops l.loop-i.least args.ats.now args.offsets.now l.loop-i.i (omega arith) (omega arith) c.if-not-least-at.true in
     simp (le-leb _ _ l.before.before.if-offset0-gt-OFFSET_MOST.false) (sym (sym l.loop-i.invariant.2 ∙ stops))
 
 add_least : At tie.Need-overflow_add-least
