@@ -1,12 +1,16 @@
-// What the programs share that compare a crate with a list of cases. A list has blocks of 65,536 bytes; a block has records, each
-// a kind, a byte, and signed numbers of 8 bytes, and zeros behind the last.
+// What the programs share: a buffer filled from a reader, and, of those that compare a crate with a list of cases, the list's numbers and
+// the counts. A list has blocks of 65,536 bytes; a block has records, each a kind, a byte, and signed numbers of 8 bytes, and zeros behind
+// the last.
 #![tactic(auto)]
 
-ghost use Rattle.std.specs.Prelude.{◌≡◌};
+ghost use Rattle.std.specs.Prelude.{◌≡◌, ◌≤◌, IfOk, length};
 ghost use Rattle.cases.specs.Cases.{number_at, more, met_of};
 
-use libc::STDOUT_FILENO;
+use std::io::{Read, Result};
 use wire::{HALF8, Placed};
+
+// How many bytes a block of a list has.
+pub const BLOCK_BYTES: usize = 65_536;
 
 // More blocks than a list has.
 pub const BLOCKS: u64 = 10_000;
@@ -50,23 +54,38 @@ pub fn met(counts: &mut [u64], kind: u8, same: bool)
     }
 }
 
+// Fills a buffer as far as a reader goes, and answers how many bytes came.
+pub fn read_full<R: Read>(from: &mut R, buffer: &mut [u8]) -> Result<usize>
+    ensures { IfOk result (λ n. n ≤ length buffer.new) }
+{
+    let mut filled: usize = 0;
+    while filled < buffer.len() {
+        let n = from.read(&mut buffer[filled..])?;
+        if n == 0 {
+            return Ok(filled);
+        }
+        filled += n;
+    }
+    Ok(filled)
+}
+
 // Prints a name and the count at a place. What is printed is compared with what should be, and not proved.
-pub fn report(name: &[u8], counts: &[u64], kind: u8) {
+pub fn report(rt: &impl Print, name: &[u8], counts: &[u64], kind: u8) -> Result<()> {
     let i = kind as usize;
     if i < counts.len() {
-        io::write_all(STDOUT_FILENO, name);
-        io::print_decimal(STDOUT_FILENO, counts[i]);
-        io::write_all(STDOUT_FILENO, b"\n");
+        let count = counts[i];
+        rt.write_all(name)?;
+        println!(rt; "{count}")?;
     }
+    Ok(())
 }
 
 // Prints how many cases got each number, of those whose places are below `end`: a number's count stands one place behind it.
-pub fn report_refusals(counts: &[u64], end: u8) {
-    let mut kind: u8 = 2;
-    while kind < end {
-        io::write_all(STDOUT_FILENO, b"refused by ");
-        io::print_decimal(STDOUT_FILENO, (kind - 1) as u64);
-        report(b" ", counts, kind);
-        kind += 1;
+pub fn report_refusals(rt: &impl Print, counts: &[u64], end: u8) -> Result<()> {
+    for kind in 2..end {
+        let number = kind - 1;
+        print!(rt; "refused by {number}")?;
+        report(rt, b" ", counts, kind)?;
     }
+    Ok(())
 }

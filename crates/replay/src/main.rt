@@ -7,11 +7,13 @@ ghost use Rattle.std.specs.Prelude.{◌^◌, ◌≤◌, ◌<◌};
 
 use answer::{MISSING_KIND, PHASE_KIND};
 use board::cells_answer;
-use cases::{ZERO, met, number, report, report_refusals};
+use cases::{BLOCK_BYTES, BLOCKS, ZERO, met, number, read_full, report, report_refusals};
 use classes::{class_answer, count_answer};
 use lend::{Reply, refused};
 use point::point_answer;
 use records::KIND;
+use std::fs::File;
+use std::io::Result;
 use tally::tally_answer;
 use timeline::window_answer;
 use wire::{Placed, get2, get4, get8, unplace};
@@ -309,46 +311,43 @@ fn all_records(list: &[u8], counts: &mut [u64]) {
 }
 
 // The next block of the file. It answers whether there was one.
-fn next_block(fd: i32, counts: &mut [u64]) -> bool {
-    let mut block = io::large_buffer();
-    let n = io::read_full(fd, &mut block);
+fn next_block(list: &mut File, counts: &mut [u64]) -> Result<bool> {
+    let mut block = [0u8; BLOCK_BYTES];
+    let n = read_full(list, &mut block)?;
     all_records(&block[..n], counts);
-    0 < n
+    Ok(0 < n)
 }
 
-fn all_blocks(fd: i32, counts: &mut [u64]) {
-    let mut turns = cases::BLOCKS;
-    while turns > 0 && next_block(fd, counts) {
-        turns -= 1;
+fn all_blocks(list: &mut File, counts: &mut [u64]) -> Result<()> {
+    for _ in 0..BLOCKS {
+        if !next_block(list, counts)? {
+            break;
+        }
     }
+    Ok(())
 }
 
-fn told_kinds(counts: &[u64]) {
-    report(b"answered ", counts, 1);
-    report(b"known points ", counts, KNOWN);
-    report(b"unknown points ", counts, UNKNOWN);
-    report(b"windows ", counts, ENTRIES + WINDOW);
-    report(b"tallies ", counts, ENTRIES + TALLY);
-    report(b"cells ", counts, ENTRIES + CELLS);
-    report(b"classes ", counts, ENTRIES + CLASS);
-    report(b"counts ", counts, ENTRIES + ROWS);
+fn told_kinds(rt: &HostRuntime, counts: &[u64]) -> Result<()> {
+    report(rt, b"answered ", counts, 1)?;
+    report(rt, b"known points ", counts, KNOWN)?;
+    report(rt, b"unknown points ", counts, UNKNOWN)?;
+    report(rt, b"windows ", counts, ENTRIES + WINDOW)?;
+    report(rt, b"tallies ", counts, ENTRIES + TALLY)?;
+    report(rt, b"cells ", counts, ENTRIES + CELLS)?;
+    report(rt, b"classes ", counts, ENTRIES + CLASS)?;
+    report(rt, b"counts ", counts, ENTRIES + ROWS)
 }
 
-fn told_numbers(counts: &[u64]) {
-    report_refusals(counts, KNOWN);
-    report(b"differences ", counts, 0);
-    report(b"bytes of the list not understood ", counts, STRANGE);
+fn told_numbers(rt: &HostRuntime, counts: &[u64]) -> Result<()> {
+    report_refusals(rt, counts, KNOWN)?;
+    report(rt, b"differences ", counts, 0)?;
+    report(rt, b"bytes of the list not understood ", counts, STRANGE)
 }
 
-fn main() {
-    let fd = os::open_read(b"list");
-    if fd < 0 {
-        os::fail(b"list");
-        return;
-    }
+fn main(rt: HostRuntime) -> Result<()> {
+    let mut list = File::open(&rt, "list")?;
     let mut counts = [0u64; PLACES];
-    all_blocks(fd, &mut counts);
-    libc::close(fd);
-    told_kinds(&counts);
-    told_numbers(&counts);
+    all_blocks(&mut list, &mut counts)?;
+    told_kinds(&rt, &counts)?;
+    told_numbers(&rt, &counts)
 }

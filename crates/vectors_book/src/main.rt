@@ -4,7 +4,9 @@
 
 ghost use Rattle.std.specs.Prelude.{◌≤◌};
 
-use cases::{ZERO, met, number, report, report_refusals};
+use cases::{BLOCK_BYTES, BLOCKS, ZERO, met, number, read_full, report, report_refusals};
+use std::fs::File;
+use std::io::Result;
 use wire::Placed;
 
 // Kinds of records: a book's number, its length and its bytes; and the number and the length of a book of zeros.
@@ -99,35 +101,32 @@ fn all_records(list: &[u8], counts: &mut [u64]) {
 }
 
 // The next block of the file. It answers whether there was one.
-fn next_block(fd: i32, counts: &mut [u64]) -> bool {
-    let mut block = io::large_buffer();
-    let n = io::read_full(fd, &mut block);
+fn next_block(list: &mut File, counts: &mut [u64]) -> Result<bool> {
+    let mut block = [0u8; BLOCK_BYTES];
+    let n = read_full(list, &mut block)?;
     all_records(&block[..n], counts);
-    0 < n
+    Ok(0 < n)
 }
 
-fn all_blocks(fd: i32, counts: &mut [u64]) {
-    let mut turns = cases::BLOCKS;
-    while turns > 0 && next_block(fd, counts) {
-        turns -= 1;
+fn all_blocks(list: &mut File, counts: &mut [u64]) -> Result<()> {
+    for _ in 0..BLOCKS {
+        if !next_block(list, counts)? {
+            break;
+        }
     }
+    Ok(())
 }
 
-fn told(counts: &[u64]) {
-    report(b"accepted ", counts, 1);
-    report_refusals(counts, 11);
-    report(b"differences ", counts, 0);
-    report(b"bytes of the list not understood ", counts, STRANGE);
+fn told(rt: &HostRuntime, counts: &[u64]) -> Result<()> {
+    report(rt, b"accepted ", counts, 1)?;
+    report_refusals(rt, counts, 11)?;
+    report(rt, b"differences ", counts, 0)?;
+    report(rt, b"bytes of the list not understood ", counts, STRANGE)
 }
 
-fn main() {
-    let fd = os::open_read(b"list");
-    if fd < 0 {
-        os::fail(b"list");
-        return;
-    }
+fn main(rt: HostRuntime) -> Result<()> {
+    let mut list = File::open(&rt, "list")?;
     let mut counts = [0u64; PLACES];
-    all_blocks(fd, &mut counts);
-    libc::close(fd);
-    told(&counts);
+    all_blocks(&mut list, &mut counts)?;
+    told(&rt, &counts)
 }

@@ -5,7 +5,9 @@
 ghost use Rattle.std.specs.Prelude.{◌≤◌};
 
 use calendar::{Dated, Found, Numbered};
-use cases::{ZERO, met, number, report};
+use cases::{BLOCK_BYTES, BLOCKS, ZERO, met, number, read_full, report};
+use std::fs::File;
+use std::io::Result;
 use wire::Placed;
 
 // Kinds of records, and of what is counted besides: each day of a month, and the day after its last, which is none.
@@ -168,33 +170,30 @@ fn all_records(list: &[u8], counts: &mut [u64]) {
 }
 
 // The next block of the file. It answers whether there was one.
-fn next_block(fd: i32, counts: &mut [u64]) -> bool {
-    let mut block = io::large_buffer();
-    let n = io::read_full(fd, &mut block);
+fn next_block(list: &mut File, counts: &mut [u64]) -> Result<bool> {
+    let mut block = [0u8; BLOCK_BYTES];
+    let n = read_full(list, &mut block)?;
     all_records(&block[..n], counts);
-    0 < n
+    Ok(0 < n)
 }
 
-fn all_blocks(fd: i32, counts: &mut [u64]) {
-    let mut turns = cases::BLOCKS;
-    while turns > 0 && next_block(fd, counts) {
-        turns -= 1;
+fn all_blocks(list: &mut File, counts: &mut [u64]) -> Result<()> {
+    for _ in 0..BLOCKS {
+        if !next_block(list, counts)? {
+            break;
+        }
     }
+    Ok(())
 }
 
-fn main() {
-    let fd = os::open_read(b"list");
-    if fd < 0 {
-        os::fail(b"list");
-        return;
-    }
+fn main(rt: HostRuntime) -> Result<()> {
+    let mut list = File::open(&rt, "list")?;
     let mut counts = [0u64; PLACES];
-    all_blocks(fd, &mut counts);
-    libc::close(fd);
-    report(b"days ", &counts, MONTH);
-    report(b"published weekdays ", &counts, DATE);
-    report(b"numbers of no date ", &counts, NO_NUMBER);
-    report(b"no dates ", &counts, NO_DATE);
-    report(b"differences ", &counts, 0);
-    report(b"bytes of the list not understood ", &counts, STRANGE);
+    all_blocks(&mut list, &mut counts)?;
+    report(&rt, b"days ", &counts, MONTH)?;
+    report(&rt, b"published weekdays ", &counts, DATE)?;
+    report(&rt, b"numbers of no date ", &counts, NO_NUMBER)?;
+    report(&rt, b"no dates ", &counts, NO_DATE)?;
+    report(&rt, b"differences ", &counts, 0)?;
+    report(&rt, b"bytes of the list not understood ", &counts, STRANGE)
 }

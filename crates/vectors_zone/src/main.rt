@@ -6,7 +6,9 @@ ghost use Rattle.std.specs.Prelude.{◌≤◌, ◌<◌, length};
 ghost use Rattle.zone.specs.Answers.{Valid};
 
 use calendar::Day;
-use cases::{met, number, report};
+use cases::{BLOCK_BYTES, BLOCKS, met, number, read_full, report};
+use std::fs::File;
+use std::io::Result;
 use wire::Placed;
 use zone::{Instant, Resolution};
 
@@ -238,34 +240,31 @@ fn all_zones(list: &[u8], counts: &mut [u64]) {
 }
 
 // The next block of the file. It answers whether there was one.
-fn next_block(fd: i32, counts: &mut [u64]) -> bool {
-    let mut block = io::large_buffer();
-    let n = io::read_full(fd, &mut block);
+fn next_block(list: &mut File, counts: &mut [u64]) -> Result<bool> {
+    let mut block = [0u8; BLOCK_BYTES];
+    let n = read_full(list, &mut block)?;
     all_zones(&block[..n], counts);
-    0 < n
+    Ok(0 < n)
 }
 
-fn all_blocks(fd: i32, counts: &mut [u64]) {
-    let mut turns = cases::BLOCKS;
-    while turns > 0 && next_block(fd, counts) {
-        turns -= 1;
+fn all_blocks(list: &mut File, counts: &mut [u64]) -> Result<()> {
+    for _ in 0..BLOCKS {
+        if !next_block(list, counts)? {
+            break;
+        }
     }
+    Ok(())
 }
 
-fn main() {
-    let fd = os::open_read(b"list");
-    if fd < 0 {
-        os::fail(b"list");
-        return;
-    }
+fn main(rt: HostRuntime) -> Result<()> {
+    let mut list = File::open(&rt, "list")?;
     let mut counts = [0u64; PLACES];
-    all_blocks(fd, &mut counts);
-    libc::close(fd);
-    report(b"zones ", &counts, ZONE);
-    report(b"readings of instants ", &counts, READING);
-    report(b"clear readings ", &counts, CLEAR);
-    report(b"folds ", &counts, FOLD);
-    report(b"gaps ", &counts, GAP);
-    report(b"differences ", &counts, 0);
-    report(b"bytes of the list not understood ", &counts, STRANGE);
+    all_blocks(&mut list, &mut counts)?;
+    report(&rt, b"zones ", &counts, ZONE)?;
+    report(&rt, b"readings of instants ", &counts, READING)?;
+    report(&rt, b"clear readings ", &counts, CLEAR)?;
+    report(&rt, b"folds ", &counts, FOLD)?;
+    report(&rt, b"gaps ", &counts, GAP)?;
+    report(&rt, b"differences ", &counts, 0)?;
+    report(&rt, b"bytes of the list not understood ", &counts, STRANGE)
 }
