@@ -1,4 +1,4 @@
-// The boundary: what the dashboard's server links against, as C functions. Every entry takes every book, row, query and room.
+// The boundary: what the dashboard's server asks; `market_time_c` has it as C functions. Every entry takes every book, row, query and room.
 #![tactic(auto)]
 
 ghost use Rattle.std.specs.Prelude.{◌≡◌};
@@ -22,32 +22,28 @@ use tally::tally_answer;
 use timeline::window_answer;
 
 // The phase at an instant: kind 16 with its 18s, or kind 19.
-#[unsafe(no_mangle)]
-pub extern "C" fn market_time_point(book: &[u8], at: i64, out: &mut [u8]) -> Reply
+pub fn market_time_point(book: &[u8], at: i64, out: &mut [u8]) -> Reply
     ensures { Lent (point_number book.now at) (point_answer book.now at) out.old out.new result }
 {
     point_answer(book, at, out)
 }
 
 // The phases of a window: kinds 16, 17 and 18.
-#[unsafe(no_mangle)]
-pub extern "C" fn market_time_window(book: &[u8], start: i64, end: i64, out: &mut [u8]) -> Reply
+pub fn market_time_window(book: &[u8], start: i64, end: i64, out: &mut [u8]) -> Reply
     ensures { Lent (window_number book.now start end) (window_answer book.now start end) out.old out.new result }
 {
     window_answer(book, start, end, out)
 }
 
 // The totals of a window: kind 22 for each day, then one 23.
-#[unsafe(no_mangle)]
-pub extern "C" fn market_time_tally(book: &[u8], start: i64, end: i64, out: &mut [u8]) -> Reply
+pub fn market_time_tally(book: &[u8], start: i64, end: i64, out: &mut [u8]) -> Reply
     ensures { Lent (tally_number book.now start end) (tally_answer book.now start end) out.old out.new result }
 {
     tally_answer(book, start, end, out)
 }
 
 // A row's cells between brackets. `at`, the board's now, counts only where it is marked.
-#[unsafe(no_mangle)]
-pub extern "C" fn market_time_cells(
+pub fn market_time_cells(
     row: &[u8],
     start: i64,
     end: i64,
@@ -63,16 +59,14 @@ pub extern "C" fn market_time_cells(
 }
 
 // What a row shows at an instant: its class.
-#[unsafe(no_mangle)]
-pub extern "C" fn market_time_class(row: &[u8], at: i64) -> ClassReply
+pub fn market_time_class(row: &[u8], at: i64) -> ClassReply
     ensures { result ≡ class_reply row.now at }
 {
     class_answer(row, at)
 }
 
 // How many rows, each behind its mark, are of each class at an instant.
-#[unsafe(no_mangle)]
-pub extern "C" fn market_time_count(rows: &[u8], at: i64) -> CountReply
+pub fn market_time_count(rows: &[u8], at: i64) -> CountReply
     ensures { result ≡ count_reply rows.now at }
 {
     count_answer(rows, at)
