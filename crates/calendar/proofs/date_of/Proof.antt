@@ -10,23 +10,21 @@ use Rattle.calendar.proofs.date_of.Statement.{statement}
 use Rattle.calendar.proofs.date_of.Tie as tie
 
 -- the Day that was found means the number that was asked for, and is one of the calendar
-on : (c : tie.In-On-2) → (meaning c.d-1.given.0.0.0 ≡ c.before.before.before.args.number) × (first_day ≤ c.d-1.given.0.0.0) × (c.d-1.given.0.0.0 ≤ last_day)
+on : (c : tie.In-On) → (meaning c.in-On.d.0 ≡ c.args.number) × (first_day ≤ c.in-On.d.0) × (c.in-On.d.0 ≤ last_day)
 on c =
-    let asked = c.before.before in
-    let known = within_day c.d-1.given.0.0.0 _ (ap found (sym c.d-1.given.1) ∙ asked.day_of.ensures) in
-    (known.0 ∙ to_z-of_z asked.before.ranges.number, known.1, known.2)
+    let known = within_day c.in-On.d.0 _ (ap found (sym c.in-On.is) ∙ c.day_of.ensures) in
+    (known.0 ∙ to_z-of_z c.ranges.number, known.1, known.2)
 
 date_on_requires : tie.Need-date_on-requires
-date_on_requires c κs = let known = on c.before in (known.1, known.2)
+date_on_requires c κs = let known = on c in (known.1, known.2)
 
 returns : tie.Need-returns-in-On
-returns c = c.date_on.ensures ∙ ap some (on c.before.before).0
+returns c = c.date_on.ensures ∙ ap some (on c.before).0
 
 returns_2 : tie.Need-returns-in-NoDay
 returns_2 c =
-    let asked = c.before.before in
-    let none_within = ap found (sym c.enum_told-1.given.1) ∙ asked.day_of.ensures ∙ ap within (to_z-of_z asked.before.ranges.number) in
-    λ y m d e. let some-within = date_within y m d asked.before.args.number e in let z : ◌≡◌ {A = ℕ} 0 1 = cc in omega arith
+    let none_within = ap found (sym c.in-NoDay.is) ∙ c.day_of.ensures ∙ ap within (to_z-of_z c.ranges.number) in
+    λ y m d e. let some-within = date_within y m d c.args.number e in let z : ◌≡◌ {A = ℕ} 0 1 = cc in omega arith
 
 pub date_of_spec : {M : Type 1} → statement M
 date_of_spec =

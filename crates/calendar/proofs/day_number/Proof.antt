@@ -7,18 +7,11 @@ use Rattle.calendar.proofs.day_number.Tie as tie
 
 returns : tie.Need-returns-in-On
 returns c =
-    let at-number-of = c in
-    let at-d = at-number-of.before.before in
-    let at-day-on = at-d.before.before in
-    let at-start = at-day-on.before in
-    let on = ap found (sym at-d.d-1.given.1) ∙ at-day-on.day_on.ensures in
-    at-number-of.number_of.ensures ∙ date_within at-start.args.year at-start.args.month at-start.args.day _ (sym on) ∙ on
+    let on = ap found (sym c.in-On.is) ∙ c.day_on.ensures in
+    c.number_of.ensures ∙ date_within c.args.year c.args.month c.args.day _ (sym on) ∙ on
 
 returns_2 : tie.Need-returns-in-NoDay
-returns_2 c =
-    let at-enum-told = c in
-    let at-day-on = at-enum-told.before.before in
-    ap found (sym at-enum-told.enum_told-1.given.1) ∙ at-day-on.day_on.ensures
+returns_2 c = ap found (sym c.in-NoDay.is) ∙ c.day_on.ensures
 
 pub day_number_spec : {M : Type 1} → statement M
 day_number_spec =

@@ -3,10 +3,10 @@ use Rattle.zone.proofs.convert.taken.Statement.{statement}
 use Rattle.zone.proofs.convert.taken.Tie as tie
 
 returns_3 : tie.Need-returns-then-before-after
-returns_3 c = rw c.before.before.before.before.before.before.r-in-Gap-1.given.1 (omega arith)
+returns_3 c = rw c.in-Gap.is (omega arith)
 
 returns_4 : tie.Need-returns-else-before-after
-returns_4 c = rw c.before.before.before.before.before.before.r-in-Gap-1.given.1 (omega arith)
+returns_4 c = rw c.in-Gap.is (omega arith)
 
 pub taken_spec : {M : Type 1} → statement M
 taken_spec =

@@ -3,10 +3,10 @@ use Rattle.zone.proofs.convert.uncertain.Statement.{statement}
 use Rattle.zone.proofs.convert.uncertain.Tie as tie
 
 returns_2 : tie.Need-returns-in-Fold
-returns_2 c = rw c.before.r-1.given.1
+returns_2 c = rw c.in-Fold.is
 
 returns_3 : tie.Need-returns-in-Gap
-returns_3 c = rw c.before.r-in-Gap-1.given.1
+returns_3 c = rw c.in-Gap.is
 
 pub uncertain_spec : {M : Type 1} → statement M
 uncertain_spec =

@@ -1,6 +1,7 @@
 use Rattle.zone.proofs.Ahead.{Ahead, ahead_passed, ahead_end, ahead_at, ahead_late, ahead_stops, ahead_goes}
 use Rattle.zone.specs.Zone.{zone_of}
-use Rattle.std.proofs.Common.{ℕ, ◌-◌, ◌*◌, ◌^◌, ◌<◌, ◌≤◌, length, sym, arith}
+use mathlib.Core.Bool.{not}
+use Rattle.std.proofs.Common.{ap, ℕ, ◌-◌, ◌*◌, ◌^◌, ◌<◌, ◌≤◌, length, sym, arith}
 use Rattle.zone.proofs.dated.reads_changes.Statement.{statement}
 use Rattle.zone.proofs.dated.reads_changes.Tie as tie
 
@@ -58,7 +59,7 @@ returns_2 c =
     let l = at-if1.before.before.before in
     sym
     (ahead_stops (start l.before).requires (ahead l.before) l.loop-k-test.true at-if1.if-to-at.false at-reads-on.reads_on.ensures
-    at-reads-on2.reads_on-in-loop-k.ensures c.if-not-reads_on.true)
+    at-reads-on2.reads_on-in-loop-k.ensures (ap not c.if-not-reads_on.true))
 
 add_k : At tie.Need-overflow_add-k
 add_k c = omega (arith, small c.before.before.before.before.before.before)
@@ -75,7 +76,7 @@ loop_again c =
     let inside = l.loop-k-test.true in (
       omega (arith, inside),
       λ a h. ahead_goes (start l.before).requires (l.before.loop-k.invariant.1 a h) inside at-if1.if-to-at.false at-reads-on.reads_on.ensures
-          at-reads-on2.reads_on-in-loop-k.ensures c.if-not-reads_on.false,
+          at-reads-on2.reads_on-in-loop-k.ensures (ap not c.if-not-reads_on.false),
     )
 
 returns_3 : At tie.Need-returns
