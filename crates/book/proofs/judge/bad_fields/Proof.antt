@@ -10,20 +10,20 @@ bad_coverage_requires : tie.Need-bad_coverage-requires
 bad_coverage_requires c κs =
     let at-match = c in
     let at-start = at-match.before.before in
-    room1 at-start.args.book.now at-start.args.at at-start.args.kind at-start.requires.0 at-start.requires.1 at-match.in-1.in-1-own.keys1
+    room1 at-start.args.book.now at-start.args.at at-start.args.kind at-start.requires.0 at-start.requires.1 at-match.in-1.is
 
 bad_transition_requires : tie.Need-bad_transition-requires
 bad_transition_requires c κs =
     let at-match = c in
     let at-start = at-match.before.before in
-    room2 at-start.args.book.now at-start.args.at at-start.args.kind at-start.requires.0 at-start.requires.1 at-match.in-2.in-2-own.keys2
+    room2 at-start.args.book.now at-start.args.at at-start.args.kind at-start.requires.0 at-start.requires.1 at-match.in-2.is
 
 bad_rule_requires : tie.Need-bad_rule-requires
 bad_rule_requires c κs =
     let at-match = c in
     let at-start = at-match.before.before in
     let r = room3 at-start.args.book.now at-start.args.at at-start.args.kind at-start.requires.0 at-start.requires.1
-    at-match.in-3.in-3-own.keys3 in
+    at-match.in-3.is in
     omega arith
 
 bad_event_requires : tie.Need-bad_event-requires
@@ -41,7 +41,7 @@ returns c =
     let at-match = at-bad-coverage.before in
     let at-start = at-match.before.before in
     at-bad-coverage.bad_coverage.ensures ∙ sym (ap (bad_fields base)
-    (is_one at-start.args.book.now at-start.args.at at-start.args.kind at-start.requires.0 at-start.requires.1 at-match.in-1.in-1-own.keys1))
+    (is_one at-start.args.book.now at-start.args.at at-start.args.kind at-start.requires.0 at-start.requires.1 at-match.in-1.is))
 
 returns_2 : tie.Need-returns-in-2
 returns_2 c =
@@ -49,7 +49,7 @@ returns_2 c =
     let at-match = at-bad-transition.before in
     let at-start = at-match.before.before in
     at-bad-transition.bad_transition.ensures ∙ sym (ap (bad_fields base)
-    (is_two at-start.args.book.now at-start.args.at at-start.args.kind at-start.requires.0 at-start.requires.1 at-match.in-2.in-2-own.keys2))
+    (is_two at-start.args.book.now at-start.args.at at-start.args.kind at-start.requires.0 at-start.requires.1 at-match.in-2.is))
 
 returns_3 : tie.Need-returns-in-3
 returns_3 c =
@@ -57,7 +57,7 @@ returns_3 c =
     let at-match = at-bad-rule.before in
     let at-start = at-match.before.before in
     at-bad-rule.bad_rule.ensures ∙ sym (ap (bad_fields base)
-    (is_three at-start.args.book.now at-start.args.at at-start.args.kind at-start.requires.0 at-start.requires.1 at-match.in-3.in-3-own.keys3))
+    (is_three at-start.args.book.now at-start.args.at at-start.args.kind at-start.requires.0 at-start.requires.1 at-match.in-3.is))
 
 returns_4 : tie.Need-returns-in_default
 returns_4 c =

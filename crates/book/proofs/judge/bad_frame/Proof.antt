@@ -37,19 +37,19 @@ sized c n low high e =
 
 returns_3 : tie.Need-returns-in-1
 returns_3 c =
-    let k = c.in-1.in-1-own.keys1 in
+    let k = c.in-1.is in
     sized c.before _ (omega arith) (omega arith) (rw k)
 
 returns_4 : tie.Need-returns-in-2
 returns_4 c =
-    let k = c.in-2.in-2-own.keys2 in
+    let k = c.in-2.is in
     sized c.before _ (omega arith) (omega arith) (rw k)
 
 returns_5 : tie.Need-returns-in-3
 returns_5 c =
     let at-byte-or-0 = c.before in
     let at-count-place = at-byte-or-0.before in
-    let k = at-count-place.before.in-3.in-3-own.keys3 in
+    let k = at-count-place.before.in-3.is in
     sized at-count-place.before.before _ (omega (arith, k)) (omega (arith, k))
     (rw (k, c.time_place.ensures.0, at-byte-or-0.byte_or_0-n.ensures, at-count-place.count_place.ensures.0) (omega arith))
 
@@ -57,7 +57,7 @@ returns_6 : tie.Need-returns-in-4
 returns_6 c =
     let at-byte-or-02 = c.before in
     let at-count-place2 = at-byte-or-02.before in
-    let k = at-count-place2.before.in-4.in-4-own.keys4 in
+    let k = at-count-place2.before.in-4.is in
     sized at-count-place2.before.before _ (omega (arith, k)) (omega (arith, k))
     (rw (k, c.time_place-in-4.ensures.0, at-byte-or-02.byte_or_0-n-in-4.ensures, at-count-place2.count_place-in-4.ensures.0) (omega arith))
 

@@ -21,7 +21,7 @@ add_signed8 c =
     let at-match = c.before in
     let at-start = at-match.before.before in
     let r = room2 at-start.args.book.now at-start.args.at at-start.args.kind at-start.requires.0 at-start.requires.1
-    at-match.in-2.in-2-own.keys2 in
+    at-match.in-2.is in
     omega arith
 
 signed8_requires : tie.Need-signed8-requires
@@ -29,7 +29,7 @@ signed8_requires c κs =
     let at-match = c.before in
     let at-start = at-match.before.before in
     let r = room2 at-start.args.book.now at-start.args.at at-start.args.kind at-start.requires.0 at-start.requires.1
-    at-match.in-2.in-2-own.keys2 in
+    at-match.in-2.is in
     omega arith
 
 add_t10 : tie.Need-overflow_add-result-in-2-2
@@ -37,7 +37,7 @@ add_t10 c =
     let at-signed8 = c.before in
     let at-match = at-signed8.before.before in
     let at-start = at-match.before.before in
-    let h = at-start.requires.2.instant (sym at-start.requires.1 ∙ at-match.in-2.in-2-own.keys2) in let e = at-signed8.signed8.ensures in omega arith
+    let h = at-start.requires.2.instant (sym at-start.requires.1 ∙ at-match.in-2.is) in let e = at-signed8.signed8.ensures in omega arith
 
 add_t11 : tie.Need-overflow_add-result-in-3
 add_t11 c =
@@ -53,21 +53,21 @@ returns : tie.Need-returns-in-1
 returns c =
     let at-match = c.before in
     let at-start = at-match.before.before in
-    let z : kind_at at-start.args.book.now at-start.args.at ≡ coverage_kind = sym at-start.requires.1 ∙ at-match.in-1.in-1-own.keys1 in rw z
+    let z : kind_at at-start.args.book.now at-start.args.at ≡ coverage_kind = sym at-start.requires.1 ∙ at-match.in-1.is in rw z
 
 returns_2 : tie.Need-returns-in-2
 returns_2 c =
     let at-signed8 = c.before in
     let at-match = at-signed8.before.before in
     let at-start = at-match.before.before in
-    let z : kind_at at-start.args.book.now at-start.args.at ≡ transition_kind = sym at-start.requires.1 ∙ at-match.in-2.in-2-own.keys2 in
+    let z : kind_at at-start.args.book.now at-start.args.at ≡ transition_kind = sym at-start.requires.1 ∙ at-match.in-2.is in
     rw (z, at-signed8.signed8.ensures)
 
 returns_3 : tie.Need-returns-in-3
 returns_3 c =
     let at-match = c.before in
     let at-start = at-match.before.before in
-    let z : kind_at at-start.args.book.now at-start.args.at ≡ rule_kind = sym at-start.requires.1 ∙ at-match.in-3.in-3-own.keys3 in rw z
+    let z : kind_at at-start.args.book.now at-start.args.at ≡ rule_kind = sym at-start.requires.1 ∙ at-match.in-3.is in rw z
 
 returns_4 : tie.Need-returns-in_default
 returns_4 c =

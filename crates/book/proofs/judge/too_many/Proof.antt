@@ -9,17 +9,17 @@ use Rattle.book.proofs.judge.too_many.Tie as tie
 returns : tie.Need-returns-in-1
 returns c =
     let at-match = c.before in
-    rw at-match.in-1.in-1-own.keys1
+    rw at-match.in-1.is
 
 returns_2 : tie.Need-returns-in-2
 returns_2 c =
     let at-match = c.before in
-    rw at-match.in-2.in-2-own.keys2
+    rw at-match.in-2.is
 
 returns_3 : tie.Need-returns-in-3
 returns_3 c =
     let at-match = c.before in
-    rw at-match.in-3.in-3-own.keys3
+    rw at-match.in-3.is
 
 returns_4 : tie.Need-returns-in_default
 returns_4 c =

@@ -25,58 +25,30 @@ enum_known_b c = search rules
 
 returns : tie.Need-returns-then-b-a
 returns c =
-    let at-if1 = c in
-    let at_b = at-if1.before.before.before.before in
-    let at-asked-at2 = at_b.before.before in
-    let at_a = at-asked-at2.before.before in
-    let at-asked-at = at_a.before.before in
-    let at-start = at-asked-at.before in
-    let a = (asked_in _ at-start.ranges.start at-asked-at.asked_at.ensures.1 at_a.a-1.given.1) in
-    let b = (asked_in _ at-start.ranges.end at-asked-at2.asked_at-in-At.ensures.1 at_b.b-1.given.1) in
-    numbered _ _ (reversed _ _ a.1 b.1 (omega (arith, at-if1.if-b-a.true, a.0, b.0)))
+    let a = (asked_in _ c.ranges.start c.asked_at.ensures.1 c.in-At.is) in
+    let b = (asked_in _ c.ranges.end c.asked_at-in-At.ensures.1 c.in-At-asked_at.is) in
+    numbered _ _ (reversed _ _ a.1 b.1 (omega (arith, c.if-b-a.true, a.0, b.0)))
 
 returns_2 : tie.Need-returns-then-b-a-2
 returns_2 c =
-    let at-if2 = c in
-    let at_b = at-if2.before.before.before.before.before.before.before in
-    let at-asked-at2 = at_b.before.before in
-    let at_a = at-asked-at2.before.before in
-    let at-asked-at = at_a.before.before in
-    let at-start = at-asked-at.before in
-    let a = (asked_in _ at-start.ranges.start at-asked-at.asked_at.ensures.1 at_a.a-1.given.1) in
-    let b = (asked_in _ at-start.ranges.end at-asked-at2.asked_at-in-At.ensures.1 at_b.b-1.given.1) in
-    numbered _ _ (empty _ _ a.1 b.1 (omega (arith, at-if2.if-b-a-2.true, a.0, b.0)))
+    let a = (asked_in _ c.ranges.start c.asked_at.ensures.1 c.in-At.is) in
+    let b = (asked_in _ c.ranges.end c.asked_at-in-At.ensures.1 c.in-At-asked_at.is) in
+    numbered _ _ (empty _ _ a.1 b.1 (omega (arith, c.if-b-a-2.true, a.0, b.0)))
 
 returns_3 : tie.Need-returns-in-Outside
-returns_3 c =
-    let at-enum-told = c in
-    let at-asked-at = at-enum-told.before.before in
-    let at-start = at-asked-at.before in
-    numbered _ _ (start_outside _ _ (asked_outside _ at-start.ranges.start at-asked-at.asked_at.ensures.1 at-enum-told.enum_told-1.given.1))
+returns_3 c = numbered _ _ (start_outside _ _ (asked_outside _ c.ranges.start c.asked_at.ensures.1 c.in-Outside.is))
 
 returns_4 : tie.Need-returns-in-Outside-asked_at
 returns_4 c =
-    let at-enum-told2 = c in
-    let at-asked-at2 = at-enum-told2.before.before in
-    let at_a = at-asked-at2.before.before in
-    let at-asked-at = at_a.before.before in
-    let at-start = at-asked-at.before in
     numbered _ _
-    (end_outside _ _ (asked_in _ at-start.ranges.start at-asked-at.asked_at.ensures.1 at_a.a-1.given.1).1
-    (asked_outside _ at-start.ranges.end at-asked-at2.asked_at-in-At.ensures.1 at-enum-told2.enum_told-in-Outside-asked_at-1.given.1))
+    (end_outside _ _ (asked_in _ c.ranges.start c.asked_at.ensures.1 c.in-At.is).1
+    (asked_outside _ c.ranges.end c.asked_at-in-At.ensures.1 c.in-Outside-asked_at.is))
 
 returns_5 : tie.Need-returns-else-b-a-2
 returns_5 c =
-    let at-if2 = c in
-    let at-if1 = at-if2.before.before.before in
-    let at_b = at-if1.before.before.before.before in
-    let at-asked-at2 = at_b.before.before in
-    let at_a = at-asked-at2.before.before in
-    let at-asked-at = at_a.before.before in
-    let at-start = at-asked-at.before in
-    let a = (asked_in _ at-start.ranges.start at-asked-at.asked_at.ensures.1 at_a.a-1.given.1) in
-    let b = (asked_in _ at-start.ranges.end at-asked-at2.asked_at-in-At.ensures.1 at_b.b-1.given.1) in
-    numbered _ _ (passes _ _ a.1 b.1 _ _ a.0 b.0 (omega (arith, at-if1.if-b-a.false, at-if2.if-b-a-2.false, a.0, b.0)))
+    let a = (asked_in _ c.ranges.start c.asked_at.ensures.1 c.in-At.is) in
+    let b = (asked_in _ c.ranges.end c.asked_at-in-At.ensures.1 c.in-At-asked_at.is) in
+    numbered _ _ (passes _ _ a.1 b.1 _ _ a.0 b.0 (omega (arith, c.if-b-a.false, c.if-b-a-2.false, a.0, b.0)))
 
 pub asked_window_spec : {M : Type 1} → statement M
 asked_window_spec =
