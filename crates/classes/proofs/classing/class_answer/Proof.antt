@@ -17,45 +17,33 @@ use Rattle.classes.proofs.classing.class_answer.Statement.{statement}
 use Rattle.classes.proofs.classing.class_answer.Tie as tie
 
 -- at an instant in range the row is judged
-judged : (c : tie.In-At-2) {r : ClassReply}
-    → let args = c.before.before.before.before.args in
-    r ≡ judged_class args.row.now (placed w64 args.at) → r ≡ class_reply args.row.now args.at
-judged c e =
-    let at-asked-at = c.before.before in
-    class_judged _ _ (asked_in _ at-asked-at.before.before.ranges.at at-asked-at.asked_at.ensures.1 c.t-1.given.1).1 e
+judged : (c : tie.In-At) {r : ClassReply}
+    → r ≡ judged_class c.args.row.now (placed w64 c.args.at) → r ≡ class_reply c.args.row.now c.args.at
+judged c e = class_judged _ _ (asked_in _ c.ranges.at c.asked_at.ensures.1 c.in-At.is).1 e
 
 -- what the row's class tells of the row
 tells : (c : tie.After-row_class) {x : Classed} → c.row_class.result ≡ x
-    → let at_place = c.before in
-    Classes false at_place.before.before.before.before.before.before.args.row.now 0 at_place.place.result.0 x
+    → Classes false c.args.row.now 0 c.place.result.0 x
 tells c e = subst (Classes false _ 0 _) e c.row_class.ensures
 
 returns : tie.Need-returns-in-Outside
-returns c =
-    let at-asked-at = c.before.before.before in
-    class_outside _ _ (asked_outside _ at-asked-at.before.before.ranges.at at-asked-at.asked_at.ensures.1 c.before.enum_told-1.given.1)
-    c.no_class.ensures
+returns c = class_outside _ _ (asked_outside _ c.ranges.at c.asked_at.ensures.1 c.in-Outside.is) c.no_class.ensures
 
 returns_2 : tie.Need-returns-in-Bad
 returns_2 c =
-    let at-row-class = c.before.before.before in
-    judged at-row-class.before.before.before
-    (class_bad _ _ (row_begin _ ∙ tells at-row-class c.before.enum_told-in-Bad-1.given.1) c.no_class-in-Bad.ensures)
+    let at-row-class = c.before.before in
+    judged at-row-class.before.before (class_bad _ _ (row_begin _ ∙ tells at-row-class c.in-Bad.is) c.no_class-in-Bad.ensures)
 
 returns_3 : tie.Need-returns-in-Last
 returns_3 c =
-    let at-shown = c.before.before in
-    let at-row-class = at-shown.before.before in
-    let at_place = at-row-class.before in
-    let at-t = at_place.before.before in
-    let only = tells at-row-class at-shown.shown-1.given.1 in
-    let instant = at_place.place.ensures ∙ ap (placed w64) (to_z-of_z w64 _ at-t.before.before.before.before.ranges.at) in
-    judged at-t (class_told _ _ (row_begin _ ∙ only.good) (c.number_of.ensures ∙ ap class_number (only.shown-1 ∙ ap (class_at _) instant)))
+    let at-row-class = c.before.before in
+    let only = tells at-row-class c.in-Last.is in
+    let instant = c.place.ensures ∙ ap (placed w64) (to_z-of_z w64 _ c.ranges.at) in
+    judged at-row-class.before.before
+    (class_told _ _ (row_begin _ ∙ only.good) (c.number_of.ensures ∙ ap class_number (only.shown ∙ ap (class_at _) instant)))
 
 returns_4 : tie.Need-returns-in-More
-returns_4 c =
-    let at-shown2 = c.before.before in
-    absurd (untrue (tells at-shown2.before.before at-shown2.shown-in-More-1.given.1).allowed)
+returns_4 c = absurd (untrue (tells c.before.before c.in-More.is).allowed)
 
 pub class_answer_spec : {M : Type 1} → statement M
 class_answer_spec =

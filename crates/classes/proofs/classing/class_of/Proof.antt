@@ -11,23 +11,13 @@ is_trading_requires : tie.Need-is_trading-requires
 is_trading_requires c κs = tt
 
 returns : tie.Need-returns-then-is_trading
-returns c =
-    let at-if1 = c in
-    let at-is-trading = at-if1.before in
-    let at-shows = at-is-trading.before.before in
-    let at-start = at-shows.before.before in
-    class_phase at-start.args.shows-1 _ _ (at-shows.shows-1.given.1) _ (sym at-if1.if-is_trading.true ∙ at-is-trading.is_trading.ensures)
+returns c = class_phase c.args.shows _ _ c.in-Phase.is _ (sym c.if-is_trading.true ∙ c.is_trading.ensures)
 
 enum_told : tie.Need-enum_told-1
 enum_told c = search rules
 
 returns_2 : tie.Need-returns-else-is_trading
-returns_2 c =
-    let at-if1 = c in
-    let at-is-trading = at-if1.before in
-    let at-shows = at-is-trading.before.before in
-    let at-start = at-shows.before.before in
-    class_phase at-start.args.shows-1 _ _ (at-shows.shows-1.given.1) _ (sym at-if1.if-is_trading.false ∙ at-is-trading.is_trading.ensures)
+returns_2 c = class_phase c.args.shows _ _ c.in-Phase.is _ (sym c.if-is_trading.false ∙ c.is_trading.ensures)
 
 returns_3 : tie.Need-returns-in-Unknown
 returns_3 c = search rules

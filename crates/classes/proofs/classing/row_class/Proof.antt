@@ -21,68 +21,50 @@ At it = it invariant-loop decreases-loop
 
 -- what follows from what stands at the place
 tells : (c : At tie.After-stands_at) {x : Stands} → c.stands_at.result ≡ x
-    → let args = c.before.before.before.args in
-    let now = c.before.loop-behind in
-    Tells args.marks args.rows.now now.at now.least now.waiting x
-tells c e = told _ _ _ _ _ c.before.loop-behind.invariant.going.inside (sym c.stands_at.ensures ∙ e)
+    → let now = c.loop-behind in
+    Tells c.args.marks c.args.rows.now now.at now.least now.waiting x
+tells c e = told _ _ _ _ _ c.loop-behind.invariant.going.inside (sym c.stands_at.ensures ∙ e)
 
 -- the rows are no longer than a place can count
-short : (c : At tie.At-loop-behind) → length c.before.before.args.rows.now < 2 ^ 64
-short c = omega (arith, c.before.shared_slice_known-1.given (length c.before.before.args.rows.now))
+short : (c : At tie.At-loop-behind) → length c.args.rows.now < 2 ^ 64
+short c = omega (arith, c.shared_slice_known-1.given (length c.args.rows.now))
 
 loop_holds : At tie.Need-loop-behind-init
 loop_holds c = along_start _ _ _ _ c.before.requires
 
 returns : At tie.Need-returns-in-Bad
-returns c =
-    let at-stands-at = c.before.before in
-    at-stands-at.before.loop-behind.invariant.going.same ∙ tells at-stands-at c.enum_told-1.given.1
+returns c = c.loop-behind.invariant.going.same ∙ tells c.before c.in-Bad.is
 
 returns_2 : At tie.Need-returns-in-End
-returns_2 c =
-    let at-stands-at = c.before.before in
-    along_end _ _ _ _ at-stands-at.before.loop-behind.invariant (tells at-stands-at c.enum_told-in-End-1.given.1)
+returns_2 c = along_end _ _ _ _ c.loop-behind.invariant (tells c.before c.in-End.is)
 
 add_behind : At tie.Need-overflow_add-behind
-add_behind c =
-    let at-stands-at = c.before.before in
-    omega (arith, (tells at-stands-at c.enum_told-in-Mark-1.given.1).inside, short at-stands-at.before)
+add_behind c = omega (arith, (tells c.before c.in-Mark.is).inside, short c.before.before)
 
 returns_3 : At tie.Need-returns-in-Mark
-returns_3 c =
-    let at-stands-at = c.before.before in
-    along_mark _ _ _ _ at-stands-at.before.loop-behind.invariant (tells at-stands-at c.enum_told-in-Mark-1.given.1)
+returns_3 c = along_mark _ _ _ _ c.loop-behind.invariant (tells c.before c.in-Mark.is)
 
 read_segment_requires : At tie.Need-read_segment-g-requires
-read_segment_requires c κs = (tells c.before.before c.enum_told-in-Segment-1.given.1).segment
+read_segment_requires c κs = (tells c.before c.in-Segment.is).segment
 
 loop_less : At tie.Need-loop-behind-smaller-in-Segment
 loop_less c =
-    let at-read-segment = c.before.before.before in
-    let at-enum-told4 = at-read-segment.before in
-    let at-stands-at = at-enum-told4.before.before in
-    segment_after at-stands-at.before.loop-behind.invariant.going (tells at-stands-at at-enum-told4.enum_told-in-Segment-1.given.1) at-read-segment.read_segment-g.ensures
+    let at-stands-at = c.before.before.before.before.before in
+    segment_after c.loop-behind.invariant.going (tells at-stands-at c.in-Segment.is) c.read_segment-g.ensures
 
 loop_again : At tie.Need-loop-behind-preserved-in-Segment
 loop_again c =
-    let at_first = c.before in
-    let at-class-in = at_first.before in
-    let at-read-segment = at-class-in.before in
-    let at-enum-told4 = at-read-segment.before in
-    let at-stands-at = at-enum-told4.before.before in
-    along_segment _ _ _ _ at-stands-at.before.loop-behind.invariant (tells at-stands-at at-enum-told4.enum_told-in-Segment-1.given.1)
-    at-read-segment.read_segment-g.ensures at-class-in.class_in.ensures at_first.first-shown.ensures
+    let at-stands-at = c.before.before.before.before.before in
+    along_segment _ _ _ _ c.loop-behind.invariant (tells at-stands-at c.in-Segment.is) c.read_segment-g.ensures c.class_in.ensures c.first-shown.ensures
 
 read_event_requires : At tie.Need-read_event-e-requires
-read_event_requires c κs = (tells c.before.before c.enum_told-in-Event-1.given.1).inside
+read_event_requires c κs = (tells c.before c.in-Event.is).inside
 
 -- what follows from the event
 happens : (c : At tie.After-read_event-e)
-    → let at-stands-at = c.before.before.before in
-    let args = at-stands-at.before.before.before.args in
-    let now = at-stands-at.before.loop-behind in
-    Happens args.marks args.rows.now now.at now.least now.waiting
-happens c = tells c.before.before.before c.before.enum_told-in-Event-1.given.1
+    → let now = c.loop-behind in
+    Happens c.args.marks c.args.rows.now now.at now.least now.waiting
+happens c = tells c.before.before c.in-Event.is
 
 sub_waiting : At tie.Need-overflow_sub-waiting
 sub_waiting c = omega (arith, (happens c).some)
@@ -91,7 +73,7 @@ loop_less_2 : At tie.Need-loop-behind-smaller
 loop_less_2 c = omega (arith, (happens c).inside, c.read_event-e.ensures.2)
 
 loop_again_2 : At tie.Need-loop-behind-preserved
-loop_again_2 c = along_event _ _ _ _ c.before.before.before.before.loop-behind.invariant (happens c) c.read_event-e.ensures.2
+loop_again_2 c = along_event _ _ _ _ c.loop-behind.invariant (happens c) c.read_event-e.ensures.2
 
 pub row_class_spec : {M : Type 1} → statement M
 row_class_spec =

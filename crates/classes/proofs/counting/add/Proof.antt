@@ -29,24 +29,16 @@ enum_told_4 : tie.Need-enum_told-in-NotShown
 enum_told_4 c = search rules
 
 returns : tie.Need-returns-in-Trading
-returns c =
-    let at-enum-told = c.before in
-    rw (at-enum-told.enum_told-1.given.1) (record { venues = refl; trading = refl; not_trading = omega arith; not_known = omega arith })
+returns c = rw c.in-Trading.is (record { venues = refl; trading = refl; not_trading = omega arith; not_known = omega arith })
 
 returns_2 : tie.Need-returns-in-NotTrading
-returns_2 c =
-    let at-enum-told2 = c.before in
-    rw (at-enum-told2.enum_told-in-NotTrading-1.given.1) (record { venues = refl; trading = omega arith; not_trading = refl; not_known = omega arith })
+returns_2 c = rw c.in-NotTrading.is (record { venues = refl; trading = omega arith; not_trading = refl; not_known = omega arith })
 
 returns_3 : tie.Need-returns-in-NotKnown
-returns_3 c =
-    let at-enum-told3 = c.before in
-    rw (at-enum-told3.enum_told-in-NotKnown-1.given.1) (record { venues = refl; trading = omega arith; not_trading = omega arith; not_known = refl })
+returns_3 c = rw c.in-NotKnown.is (record { venues = refl; trading = omega arith; not_trading = omega arith; not_known = refl })
 
 returns_4 : tie.Need-returns-in-NotShown
-returns_4 c =
-    let at-enum-told4 = c in
-    rw (at-enum-told4.enum_told-in-NotShown-1.given.1) (record { venues = refl; trading = omega arith; not_trading = omega arith; not_known = omega arith })
+returns_4 c = rw c.in-NotShown.is (record { venues = refl; trading = omega arith; not_trading = omega arith; not_known = omega arith })
 
 pub add_spec : {M : Type 1} → statement M
 add_spec =

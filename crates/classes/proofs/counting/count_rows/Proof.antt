@@ -23,51 +23,37 @@ At it = it invariant-loop decreases-loop
 
 -- each count has room for one more
 few : (c : At tie.At-loop-shown) → Few c.loop-shown.sum
-few c =
-    let at-start = c.before.before in
-    sum_few _ _ c.loop-shown.invariant (omega (arith, c.before.shared_slice_known-1.given (length at-start.args.rows.now)))
+few c = sum_few _ _ c.loop-shown.invariant (omega (arith, c.shared_slice_known-1.given (length c.args.rows.now)))
 
 -- what the class of the row tells of it
 tells : (c : At tie.After-row_class) {x : Classed} → c.row_class.result ≡ x
-    → let at-loop = c.before in
-    let args = at-loop.before.before.args in
-    Classes true args.rows.now at-loop.loop-shown.at args.t x
+    → Classes true c.args.rows.now c.loop-shown.at c.args.t x
 tells c e = subst (Classes true _ _ _) e c.row_class.ensures
 
 loop_holds : At tie.Need-loop-shown-init
 loop_holds c = sum_start _ _ c.before.requires
 
 returns : At tie.Need-returns-in-Bad
-returns c =
-    let at-row-class = c.before.before.before in
-    count_bad _ _ (at-row-class.before.loop-shown.invariant.good ∙ tells at-row-class c.before.enum_told-1.given.1) c.no_count.ensures
+returns c = count_bad _ _ (c.loop-shown.invariant.good ∙ tells c.before.before c.in-Bad.is) c.no_count.ensures
 
 add_requires : At tie.Need-add-requires
-add_requires c κs = few c.before.before.before.before
+add_requires c κs = few c.before.before
 
 returns_2 : At tie.Need-returns-in-Last
 returns_2 c =
-    let at-add = c.before in
-    let at-shown = at-add.before.before in
-    let at-row-class = at-shown.before.before in
-    let summing = at-row-class.before.loop-shown.invariant in
-    let only = tells at-row-class at-shown.shown-1.given.1 in
-    count_told _ _ (summing.good ∙ only.good) (c.counted.ensures ∙ sum_end _ _ summing at-add.add.ensures only)
+    let only = tells c.before.before.before c.in-Last.is in
+    count_told _ _ (c.loop-shown.invariant.good ∙ only.good) (c.counted.ensures ∙ sum_end _ _ c.loop-shown.invariant c.add.ensures only)
 
 add_requires_2 : At tie.Need-add-sum-requires
-add_requires_2 c κs = few c.before.before.before.before
+add_requires_2 c κs = few c.before.before
 
 loop_less : At tie.Need-loop-shown-smaller
 loop_less c =
-    let at-shown2 = c.before.before in
-    let another = tells at-shown2.before.before at-shown2.shown-in-More-1.given.1 in
+    let another = tells c.before.before c.in-More.is in
     omega (arith, another.after, another.inside)
 
 loop_again : At tie.Need-loop-shown-preserved
-loop_again c =
-    let at-shown2 = c.before.before in
-    let at-row-class = at-shown2.before.before in
-    sum_on _ _ at-row-class.before.loop-shown.invariant c.add-sum.ensures (tells at-row-class at-shown2.shown-in-More-1.given.1)
+loop_again c = sum_on _ _ c.loop-shown.invariant c.add-sum.ensures (tells c.before.before c.in-More.is)
 
 pub count_rows_spec : {M : Type 1} → statement M
 count_rows_spec =
