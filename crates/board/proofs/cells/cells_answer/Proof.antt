@@ -12,31 +12,19 @@ use borrow.Author.Rules.{rules}
 use Rattle.board.proofs.cells.cells_answer.Statement.{statement}
 use Rattle.board.proofs.cells.cells_answer.Tie as tie
 
--- the entry, from where it is told whether the now is outside
-abbrev entry : tie.After-is_outside → tie.Start
-entry c = c.before.before.before
-
-outside : (c : tie.After-is_outside) → ((entry c).args.marked && not (inside instants (entry c).args.at)) ≡ c.is_outside.result
-outside c =
-    let args = (entry c).args in
-    sym (c.is_outside.ensures ∙ ap (λ (z : ℤ). args.marked && not (inside instants z)) (to_z-of_z w64 args.at (entry c).ranges.at))
+outside : (c : tie.After-is_outside) → (c.args.marked && not (inside instants c.args.at)) ≡ c.is_outside.result
+outside c = sym (c.is_outside.ensures ∙ ap (λ (z : ℤ). c.args.marked && not (inside instants z)) (to_z-of_z w64 c.args.at c.ranges.at))
 
 -- what is asked is the window
-asked : (c : tie.After-asked_window) → let args = (entry c.before.before).args in c.asked_window.result ≡ window_of args.start args.end
-asked c =
-    let at-start = entry c.before.before in
-    c.asked_window.ensures.1 ∙ ap₂ window_of (to_z-of_z w64 at-start.args.start at-start.fits.start) (to_z-of_z w64 at-start.args.end at-start.fits.end)
+asked : (c : tie.After-asked_window) → c.asked_window.result ≡ window_of c.args.start c.args.end
+asked c = c.asked_window.ensures.1 ∙ ap₂ window_of (to_z-of_z w64 c.args.start c.ranges.start) (to_z-of_z w64 c.args.end c.ranges.end)
 
 -- and its bounds are placed
-placed_start : (c : tie.After-place) → c.place.result.0 ≡ placed w64 (entry c.before.before.before.before.before.before).args.start
-placed_start c =
-    let at-start = entry c.before.before.before.before.before.before in
-    c.place.ensures ∙ ap (placed w64) (to_z-of_z w64 at-start.args.start at-start.fits.start)
+placed_start : (c : tie.After-place) → c.place.result.0 ≡ placed w64 c.args.start
+placed_start c = c.place.ensures ∙ ap (placed w64) (to_z-of_z w64 c.args.start c.ranges.start)
 
-placed_end : (c : tie.After-place-in-Between) → c.place-in-Between.result.0 ≡ placed w64 (entry c.before.before.before.before.before.before.before).args.end
-placed_end c =
-    let at-start = entry c.before.before.before.before.before.before.before in
-    c.place-in-Between.ensures ∙ ap (placed w64) (to_z-of_z w64 at-start.args.end at-start.fits.end)
+placed_end : (c : tie.After-place-in-Between) → c.place-in-Between.result.0 ≡ placed w64 c.args.end
+placed_end c = c.place-in-Between.ensures ∙ ap (placed w64) (to_z-of_z w64 c.args.end c.ranges.end)
 
 returns : tie.Need-returns-then-is_outside
 returns c = cells_outside _ _ _ _ _ _ _ (outside c.before.before ∙ c.before.if-is_outside.true) _ c.refused.ensures
@@ -45,33 +33,25 @@ tell_cells_requires : tie.Need-tell_cells-requires
 tell_cells_requires c κs =
     let at-place2 = c.before.before in
     let at_place = at-place2.before in
-    let at_a = at_place.before.before in
-    let at-if1 = at_a.before.before.before in
-    let args = (entry at-if1.before).args in
-    let order = placed_order args.row.now args.start args.end args.columns args.marked args.at args.out-1.now
-    (outside at-if1.before ∙ at-if1.if-is_outside.false) _ _ (sym at_a.a-1.given.1 ∙ asked at_a.before.before) in
+    let at-asked-window = at_place.before.before in
+    let order = placed_order c.args.row.now c.args.start c.args.end c.args.columns c.args.marked c.args.at c.args.out.now
+    (outside at-asked-window.before.before ∙ c.if-is_outside.false) _ _ (sym c.in-Between.is ∙ asked at-asked-window) in
     omega (arith, placed_start at_place, placed_end at-place2, order)
 
 returns_2 : tie.Need-returns-in-Refused
 returns_2 c =
-    let at_n = c.before.before in
-    let at-asked-window = at_n.before.before in
-    let at-if1 = at-asked-window.before in
-    cells_refused _ _ _ _ _ _ _ (outside at-if1.before ∙ at-if1.if-is_outside.false) _ (sym at_n.n-1.given.1 ∙ asked at-asked-window) _ c.refused-in-Refused.ensures
+    let at-asked-window = c.before.before in
+    cells_refused _ _ _ _ _ _ _ (outside at-asked-window.before.before ∙ c.if-is_outside.false) _ (sym c.in-Refused.is ∙ asked at-asked-window) _ c.refused-in-Refused.ensures
 
 returns_3 : tie.Need-returns-in-Between
 returns_3 c =
-    let at-tell-cells = c.before.before in
-    let at-place3 = at-tell-cells.before.before in
-    let at-place2 = at-place3.before in
+    let at-place2 = c.before.before.before.before.before in
     let at_place = at-place2.before in
-    let at_a = at_place.before.before in
-    let at-if1 = at_a.before.before.before in
-    let at-start = entry at-if1.before in
-    let now-is = at-place3.place-in-Between-2.ensures ∙ ap (placed w64) (to_z-of_z w64 at-start.args.at at-start.fits.at) in
-    let columns-is = to_z-of_z w64 at-start.args.columns at-start.fits.columns in
-    cells_told _ _ _ _ _ _ _ (outside at-if1.before ∙ at-if1.if-is_outside.false) _ _ (sym at_a.a-1.given.1 ∙ asked at_a.before.before) _ _
-    (rw (sym (placed_start at_place), sym (placed_end at-place2), sym now-is, sym columns-is) at-tell-cells.tell_cells.ensures)
+    let at-asked-window = at_place.before.before in
+    let now-is = c.place-in-Between-2.ensures ∙ ap (placed w64) (to_z-of_z w64 c.args.at c.ranges.at) in
+    let columns-is = to_z-of_z w64 c.args.columns c.ranges.columns in
+    cells_told _ _ _ _ _ _ _ (outside at-asked-window.before.before ∙ c.if-is_outside.false) _ _ (sym c.in-Between.is ∙ asked at-asked-window) _ _
+    (rw (sym (placed_start at_place), sym (placed_end at-place2), sym now-is, sym columns-is) c.tell_cells.ensures)
 
 pub cells_answer_spec : {M : Type 1} → statement M
 cells_answer_spec =

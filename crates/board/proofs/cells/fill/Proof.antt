@@ -29,7 +29,7 @@ returns : At tie.Need-returns-then-limit-column
 returns c =
     let l = turn c.before.before in
     let pre = (entry l).requires in
-    (l.loop-column.inv.0, fill_limit _ pre.0 _ _ _ _ pre.3 _ _ l.loop-column.inv.1 _ l.loop-column.inv.0.at c.if-limit-column.true)
+    (l.loop-column.invariant.0, fill_limit _ pre.0 _ _ _ _ pre.3 _ _ l.loop-column.invariant.1 _ l.loop-column.invariant.0.at c.if-limit-column.true)
 
 add_out : At tie.Need-overflow_add-out
 add_out c = let at-if1 = c.before.before.before in omega (arith, at-if1.loop-column-test.true, (entry (turn at-if1)).requires.0.few)
@@ -55,7 +55,7 @@ loop_again c =
     let l = turn at-if1 in
     let pre = (entry l).requires in (
       c.next_column-column.ensures.0,
-      fill_one _ pre.0 _ _ _ _ pre.3 _ _ l.loop-column.inv.1 at-if1.loop-column-test.true _ l.loop-column.inv.0.at at-if2.if-limit-column.false
+      fill_one _ pre.0 _ _ _ _ pre.3 _ _ l.loop-column.invariant.1 at-if1.loop-column-test.true _ l.loop-column.invariant.0.at at-if2.if-limit-column.false
           _ c.before.cell_or.ensures _ c.next_column-column.ensures.1,
     )
 

@@ -4,10 +4,7 @@ use Rattle.board.proofs.cells.glyph_of.Statement.{statement}
 use Rattle.board.proofs.cells.glyph_of.Tie as tie
 
 returns : tie.Need-returns-in-Phase
-returns c =
-    let at-shows = c.before.before in
-    let at-start = at-shows.before.before in
-    glyph_phase at-start.args.shows-1 _ _ _ at-shows.shows-1.given.1 c.phase_glyph.ensures
+returns c = glyph_phase c.args.shows _ _ _ c.in-Phase.is c.phase_glyph.ensures
 
 pub glyph_of_spec : {M : Type 1} → statement M
 glyph_of_spec =

@@ -31,7 +31,7 @@ row_in c = c.before.before.before.before.args.row.now
 -- at every turn cells may be filled
 ready : (c : At tie.At-loop-column)
     → let grid = c.before.before.before.before.args.grid in
-    Good grid × PaceOf grid c.before.pace_of-pace.result × ColumnOf grid c.loop-column.column × (grid.columns + 2 ≤ length c.loop-column.out-1)
+    Good grid × PaceOf grid c.before.pace_of-pace.result × ColumnOf grid c.loop-column.column × (grid.columns + 2 ≤ length c.loop-column.out)
 ready c =
     let at-start = c.before.before.before.before in
     (at-start.requires.1, c.before.pace_of-pace.ensures, c.loop-column.invariant.0, omega (arith, at-start.requires.2, c.loop-column.invariant.1.painted.kept))

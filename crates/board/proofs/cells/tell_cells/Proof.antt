@@ -3,7 +3,6 @@ use mathlib.Core.Path.{◌≡◌, sym, ap, ◌∙◌}
 use mathlib.Core.Bool.{true}
 use Rattle.rows.specs.Rows.{good_row}
 use Rattle.board.specs.declared.grid.Grid.{Grid}
-use borrow.Author.Tests.{not-true, not-false}
 use lib.ListN.{length-set}
 use mir.Syntax.{w64}
 use mir.ValLaws.{to_z-of_z}
@@ -64,7 +63,7 @@ put_cells_requires c κs =
     let at-start = entry at-if1.before in (
       good at-if3.before,
       good_grid _ _ _ _ at-start.args.columns (many at-if1.before) at-if1.if-many-gt-MOST.false at-start.requires (omega arith),
-      omega (arith, at-if3.if-out-length.false, length-set at-start.args.out-1.now 0 91),
+      omega (arith, at-if3.if-out-length.false, length-set at-start.args.out.now 0 91),
     )
 
 slice_write_out_2 : tie.Need-bounds-out-length
@@ -72,13 +71,13 @@ slice_write_out_2 c =
     let at-put-cells = c.before.before in
     let args = (entry (roomy at-put-cells).before.before.before.before).args in
     let room = (roomy at-put-cells).if-out-length.false in
-    omega (arith, room, mid_length (grid_in at-put-cells) args.row.now args.out-1.now _ room at-put-cells.put_cells.ensures)
+    omega (arith, room, mid_length (grid_in at-put-cells) args.row.now args.out.now _ room at-put-cells.put_cells.ensures)
 
 same_length : tie.Need-shape_of-out
 same_length c =
     let at-put-cells = c.before.before.before in
     let args = (entry (roomy at-put-cells).before.before.before.before).args in
-    end_length (grid_in at-put-cells) args.row.now args.out-1.now _ (roomy at-put-cells).if-out-length.false at-put-cells.put_cells.ensures _
+    end_length (grid_in at-put-cells) args.row.now args.out.now _ (roomy at-put-cells).if-out-length.false at-put-cells.put_cells.ensures _
 
 returns_4 : tie.Need-returns
 returns_4 c =
@@ -86,7 +85,7 @@ returns_4 c =
     let at-if3 = roomy at-put-cells in
     let at-if1 = at-if3.before.before.before in
     let args = (entry at-if1.before).args in
-    told _ _ _ args.columns args.marked args.at.0 _ _ _ (many at-if1.before) at-if1.if-many-gt-MOST.left (good at-if3.before) at-if3.if-out-length.left _
+    told _ _ _ args.columns args.marked args.at.0 _ _ _ (many at-if1.before) at-if1.if-many-gt-MOST.false (good at-if3.before) at-if3.if-out-length.false _
     at-put-cells.before.before.before.before.marker_of-marker.ensures _ at-put-cells.put_cells.ensures c.answered.ensures
 
 pub tell_cells_spec : {M : Type 1} → statement M

@@ -1,4 +1,3 @@
-use borrow.Author.Tests.{not-true, not-false}
 use Rattle.board.proofs.Columns.{marker_none, marker_early, marker_late, marker_in}
 use borrow.Author.Rules.{rules}
 use Rattle.board.proofs.grid.marker_of.Statement.{statement}

@@ -1,9 +1,9 @@
 use Rattle.board.proofs.Columns.{Sharing, short_fits, share_start, sum_small, term_small, share_even, share_odd, share_end}
 use mathlib.Core.Path.{refl}
 use Rattle.board.specs.Private.{Small}
-use mathlib.Core.Logic.{⊎_elim}
 use native.Mathlib.Omega.{arith}
 use Rattle.board.proofs.grid.share.Statement.{statement}
+use Rattle.board.proofs.grid.share.Lts.{then-left-eq1, else-left-eq1}
 use Rattle.board.proofs.grid.share.Tie as tie
 
 abbrev invariant-loop : tie.invariant-loop-left
@@ -44,10 +44,10 @@ loop_again c =
     let pre = (entry at-loop).requires in
     let left = at-loop-test.loop-left-test.true in
     let twice = c.plus-term.ensures in
-    ⊎_elim
-    (λ w. rw w.2 (share_odd _ _ _ pre.0 pre.1 _ _ _ at-loop.loop-left.invariant left _ twice w.0.taken _ w.1.ensures))
-    (λ w. rw w.1 (share_even _ _ _ pre.0 pre.1 _ _ _ at-loop.loop-left.invariant left _ twice (omega (arith, w.0.left))))
-    at-if2.if-left-eq1.branch
+    elim at-if2.if-left-eq1.branch [
+      | then-left-eq1 w ↦ rw w.sum-is (share_odd _ _ _ pre.0 pre.1 _ _ _ at-loop.loop-left.invariant left _ twice w.if-left-eq1.true _ w.plus-sum.ensures)
+      | else-left-eq1 w ↦ rw w.sum-is (share_even _ _ _ pre.0 pre.1 _ _ _ at-loop.loop-left.invariant left _ twice (omega (arith, w.if-left-eq1.false)))
+    ]
 
 returns_2 : At tie.Need-returns
 returns_2 c =
