@@ -13,15 +13,15 @@ entry c = c.before.before.before
 -- behind each part of the line the others fit
 behind_word : (c : tie.After-put_byte-a)
     → let args = (entry c).args in
-    TextFits c.put_byte-a.result (fields (instant args.when.0 ∷ decimal args.code ∷ [])) c.put_byte-a.new.0
+    TextFits c.put_byte-a.result (fields (instant args.when.0 ∷ decimal args.code ∷ [])) c.put_byte-a.new.out
 behind_word c = rest (entry c).requires c.put_byte-a.ensures
 
 behind_instant : (c : tie.After-put_instant-b)
     → let args = (entry c.before.before.before.before).args in
-    TextFits c.put_instant-b.result (fields (decimal args.code ∷ [])) c.put_instant-b.new.0
+    TextFits c.put_instant-b.result (fields (decimal args.code ∷ [])) c.put_instant-b.new.out
 behind_instant c = rest (behind_word c.before.before.before.before) c.put_instant-b.ensures
 
-behind_all : (c : tie.After-put_number-c) → TextFits c.put_number-c.result (fields []) c.put_number-c.new.0
+behind_all : (c : tie.After-put_number-c) → TextFits c.put_number-c.result (fields []) c.put_number-c.new.out
 behind_all c = rest (behind_instant c.before.before.before.before) c.put_number-c.ensures
 
 put_instant_requires : tie.Need-put_instant-b-requires

@@ -9,22 +9,22 @@ use Rattle.listing.proofs.lines.put_head.Tie as tie
 
 -- the entry, from where the word is written
 abbrev entry : tie.After-put_word-a → tie.Start
-entry c = c.before.before.before.before
+entry c = c.before.before.before.before.before
 
 -- behind each part of the line the others fit
 behind_word : (c : tie.After-put_word-a)
     → let args = (entry c).args in
-    TextFits c.put_word-a.result (fields (decimal args.number ∷ decimal args.count ∷ [])) c.put_word-a.new.0
+    TextFits c.put_word-a.result (fields (decimal args.number ∷ decimal args.count ∷ [])) c.put_word-a.new.out
 unfolding head_line
 behind_word c = rest (entry c).requires c.put_word-a.ensures
 
 behind_number : (c : tie.After-put_number-b)
     → let args = (entry c.before.before.before.before).args in
-    TextFits c.put_number-b.result (fields (decimal args.count ∷ [])) c.put_number-b.new.0
+    TextFits c.put_number-b.result (fields (decimal args.count ∷ [])) c.put_number-b.new.out
 unfolding head_line
 behind_number c = rest (behind_word c.before.before.before.before) c.put_number-b.ensures
 
-behind_all : (c : tie.After-put_number-c) → TextFits c.put_number-c.result (fields []) c.put_number-c.new.0
+behind_all : (c : tie.After-put_number-c) → TextFits c.put_number-c.result (fields []) c.put_number-c.new.out
 unfolding head_line
 behind_all c = rest (behind_number c.before.before.before.before) c.put_number-c.ensures
 

@@ -9,7 +9,7 @@ use Rattle.listing.proofs.reply.put_row.Statement.{statement}
 use Rattle.listing.proofs.reply.put_row.Tie as tie
 
 -- the row's text fits
-fits : (c : tie.After-count) → let args = c.before.before.before.before.args in TextFits 0 (row_text (segments args.answer.now)) args.out-1.now
+fits : (c : tie.After-count) → let args = c.before.before.before.before.args in TextFits 0 (row_text (segments args.answer.now)) args.out.now
 fits c =
     let at-shared-slice-known = c.before.before.before in
     let pre = at-shared-slice-known.before.requires in

@@ -23,7 +23,7 @@ entry c = c.before.before.before.before
 lent : (c : tie.After-window_answer-reply)
     → let args = (entry c).args in
     Lent (window_number args.book.now args.start args.end) (window_answer args.book.now args.start args.end) (replicate most 0)
-    c.window_answer-reply.new.1.1.1.0 c.window_answer-reply.result
+    c.window_answer-reply.new.out c.window_answer-reply.result
 lent c =
     let args = (entry c).args in
     let start_is = to_z-of_z w64 args.start (entry c).ranges.start in
@@ -34,7 +34,7 @@ lent c =
 reply_at : (c : tie.Else-number-ne0)
     → let at-window-answer = c.before.before in
     let args = (entry at-window-answer).args in
-    Answered args.book.now args.start args.end at-window-answer.window_answer-reply.new.1.1.1.0 at-window-answer.window_answer-reply.result
+    Answered args.book.now args.start args.end at-window-answer.window_answer-reply.new.out at-window-answer.window_answer-reply.result
 reply_at c = answered _ _ _ (lent c.before.before) (length-replicate {A = ℕ} most 0) c.if-number-ne0.false
 
 put_head_requires : tie.Need-put_head-requires

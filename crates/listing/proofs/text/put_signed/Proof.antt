@@ -12,10 +12,10 @@ use Rattle.listing.proofs.text.put_signed.Statement.{statement}
 use Rattle.listing.proofs.text.put_signed.Tie as tie
 
 -- a negative one has its sign, and any other only its digits
-negative : (c : tie.Then-x-lt-HALF8) → let args = c.before.before.args in TextFits args.at (minus ∷ decimal (half w64 - args.p.0)) args.out-1.now
+negative : (c : tie.Then-x-lt-HALF8) → let args = c.before.before.args in TextFits args.at (minus ∷ decimal (half w64 - args.p.0)) args.out.now
 negative c = rw (instant_negative c.before.before.args.p.0 c.if-x-lt-HALF8.true) at c.before.before.requires
 
-natural : (c : tie.Else-x-lt-HALF8) → let args = c.before.before.args in TextFits args.at (decimal (args.p.0 - half w64)) args.out-1.now
+natural : (c : tie.Else-x-lt-HALF8) → let args = c.before.before.args in TextFits args.at (decimal (args.p.0 - half w64)) args.out.now
 natural c = rw (instant_natural c.before.before.args.p.0 (omega (arith, c.if-x-lt-HALF8.false))) at c.before.before.requires
 
 put_byte_requires : tie.Need-put_byte-next-requires
