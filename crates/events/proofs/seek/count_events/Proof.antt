@@ -12,23 +12,18 @@ use Rattle.events.proofs.seek.count_events.Tie as tie
 
 returns : tie.Need-returns-then-events-eq0
 returns c =
-    let at-if1 = c in
-    let at-start = at-if1.before.before.before.before.before in
-    let args = at-start.args in (
+    let args = c.args in (
       sym (ap length (none_found (zone_of args.offset0 args.ats.now args.offsets.now) args.book.now args.events.now args.from.0
-          args.to.0 (omega (arith, at-if1.if-events-eq0.true)))),
+          args.to.0 (omega (arith, c.if-events-eq0.true)))),
       omega arith,
     )
 
 returns_2 : tie.Need-returns-in-All
 returns_2 c =
-    let at_n = c.before in
-    let at-collect = at_n.before.before.before.before in
-    let at-start = at-collect.before.before.before.before.before.before.before.before in
-    let pre = at-start.requires in
-    let args = at-start.args in
+    let pre = c.requires in
+    let args = c.args in
     let all = collects_all args.book.now args.offset0 args.ats.now args.offsets.now args.events.now pre.0 pre.1 args.from.0
-    args.to.0 at-collect.collect.ensures at_n.n-1.given.1 in
+    args.to.0 c.collect.ensures c.in-All.is in
     let few = found_few args.book.now args.offset0 args.ats.now args.offsets.now args.events.now pre.0 pre.1 pre.2
     args.from.0 args.to.0 in
     (all.count, omega (arith, all.count, few))

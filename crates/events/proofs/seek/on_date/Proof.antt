@@ -3,13 +3,13 @@ use Rattle.events.specs.Happenings.{on_date}
 use Rattle.zone.specs.Zone.{zone_of}
 use Rattle.records.specs.Records.{event_at}
 use lib.ListN.{length}
-use mathlib.Core.Logic.{⊎_elim}
 use mathlib.Core.List.{List, map}
 use mathlib.Core.Path.{refl}
 use Prim.Native.Nat.{ℕ, ◌-◌}
 use native.Mathlib.Omega.{arith}
 use Rattle.events.proofs.seek.on_date.Statement.{statement}
 use Rattle.events.proofs.seek.on_date.Tie as tie
+use Rattle.events.proofs.seek.on_date.Lts.{then-event_first-d, else-event_first-d}
 
 abbrev invariant-loop : tie.invariant-loop-i
 invariant-loop book first ats offsets events d from to so-far₀ i₀ so_far i =
@@ -53,16 +53,15 @@ on_times_requires c κs =
 
 loop_again : tie.Need-loop-i-preserved invariant-loop decreases-loop
 loop_again c =
-    let at-event-last = c.before.before.before in
-    let at-event-first = at-event-last.before.before.before in
-    let at-loop-test = at-event-first.before.before in
-    let at-loop = at-loop-test.before in
-    let at-start = at-loop.before.before.before.before.before in
-    let z = zone_of at-start.args.offset0 at-start.args.ats.now at-start.args.offsets.now in
-    ⊎_elim (λ w. event_met z _ _ _ _ _ at-loop.loop-i.invariant at-loop-test.loop-i-test.true refl at-event-first.event_first.ensures.0
-    at-event-last.event_last.ensures.0 w.0.taken w.1.ensures.0 w.1.ensures.1 w.2) (λ w. event_passed z _ _ _ _ _
-    at-loop.loop-i.invariant at-loop-test.loop-i-test.true refl at-event-first.event_first.ensures.0 at-event-last.event_last.ensures.0
-    w.0.left w.1) c.if-event_first-d.branch
+    let z = zone_of c.args.offset0 c.args.ats.now c.args.offsets.now in
+    elim c.if-event_first-d.branch [
+      then-event_first-d w ↦
+          event_met z _ _ _ _ _ c.loop-i.invariant c.loop-i-test.true refl c.event_first.ensures.0 c.event_last.ensures.0
+          w.if-event_first-d.true w.on_times-so_far.ensures.0 w.on_times-so_far.ensures.1 w.so_far-is
+    | else-event_first-d w ↦
+          event_passed z _ _ _ _ _ c.loop-i.invariant c.loop-i-test.true refl c.event_first.ensures.0 c.event_last.ensures.0
+          w.if-event_first-d.false w.so_far-is
+    ]
 
 returns : tie.Need-returns invariant-loop decreases-loop
 returns c =

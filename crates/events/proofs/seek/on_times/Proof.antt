@@ -3,13 +3,13 @@ use Rattle.events.specs.Happenings.{on_times}
 use Rattle.zone.specs.Zone.{zone_of}
 use Rattle.records.specs.Records.{event_at}
 use lib.ListN.{length}
-use mathlib.Core.Logic.{⊎_elim}
 use mathlib.Core.Path.{sym, ◌∙◌}
 use Prim.Native.Nat.{◌-◌, ◌<◌}
 use native.Mathlib.Omega.{arith}
 use borrow.Author.Rules.{rules}
 use Rattle.events.proofs.seek.on_times.Statement.{statement}
 use Rattle.events.proofs.seek.on_times.Tie as tie
+use Rattle.events.proofs.seek.on_times.Lts.{then-happens, else-happens}
 
 abbrev invariant-loop : tie.invariant-loop-i
 invariant-loop book first ats offsets event d from to times so-far₀ i₀ so_far i =
@@ -20,21 +20,18 @@ decreases-loop book first ats offsets event d from to times so-far₀ i₀ so_fa
 
 loop_again : tie.Need-loop-i-preserved invariant-loop decreases-loop
 loop_again c =
-    let at-happens = c.before in
-    let at-occurrence = at-happens.before in
-    let at-event-time = at-occurrence.before in
-    let at-loop-test = at-event-time.before in
-    let at-loop = at-loop-test.before in
-    let at-event-times = at-loop.before in
-    let at-start = at-event-times.before.before.before.before in
-    let args = at-start.args in
+    let args = c.args in
     let z = zone_of args.offset0 args.ats.now args.offsets.now in
     let e = event_at args.book.now args.event in
-    let h : at-loop.loop-i.i < length e.times = omega (arith, at-event-times.event_times-times.ensures.0, at-loop-test.loop-i-test.true) in
-    let asked = sym at-happens.happens.ensures in
-    ⊎_elim (λ w. time_met z _ _ _ e at-loop.loop-i.invariant h at-event-time.event_time.ensures.0 at-occurrence.occurrence-o.ensures
-    (asked ∙ w.0.taken) (w.2 ∙ w.1.ensures)) (λ w. time_passed z _ _ _ e at-loop.loop-i.invariant h at-event-time.event_time.ensures.0
-    at-occurrence.occurrence-o.ensures (asked ∙ w.0.left) w.1) c.if-happens.branch
+    let h : c.loop-i.i < length e.times = omega (arith, c.event_times-times.ensures.0, c.loop-i-test.true) in
+    let asked = sym c.happens.ensures in
+    elim c.if-happens.branch [
+      then-happens w ↦
+          time_met z _ _ _ e c.loop-i.invariant h c.event_time.ensures.0 c.occurrence-o.ensures (asked ∙ w.if-happens.true)
+          (w.so_far-is ∙ w.met-so_far.ensures)
+    | else-happens w ↦
+          time_passed z _ _ _ e c.loop-i.invariant h c.event_time.ensures.0 c.occurrence-o.ensures (asked ∙ w.if-happens.false) w.so_far-is
+    ]
 
 returns : tie.Need-returns invariant-loop decreases-loop
 returns c =

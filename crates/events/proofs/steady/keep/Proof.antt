@@ -1,23 +1,23 @@
-use mathlib.Core.Logic.{⊎_elim}
 use mathlib.Core.Path.{refl, sym, ap, ◌∙◌}
 use lib.ListN.{length, length-set}
 use lib.Seq.{set_out}
 use borrow.Author.Rules.{rules}
 use Rattle.events.proofs.steady.keep.Statement.{statement}
 use Rattle.events.proofs.steady.keep.Tie as tie
+use Rattle.events.proofs.steady.keep.Lts.{then-n-when, else-n-when, then-n-which, else-n-which}
 
 same_length : tie.Need-shape_of-when
-same_length c = ⊎_elim (λ w. ap length w.1 ∙ simp length-set) (λ w. ap length w.1) c.before.if-n-when.branch
+same_length c = elim c.if-n-when.branch [ then-n-when w ↦ ap length w.when-is ∙ simp length-set | else-n-when w ↦ ap length w.when-is ]
 
 same_length_2 : tie.Need-shape_of-which
-same_length_2 c = ⊎_elim (λ w. ap length w.1 ∙ simp length-set) (λ w. ap length w.1) c.if-n-which.branch
+same_length_2 c = elim c.if-n-which.branch [ then-n-which w ↦ ap length w.which-is ∙ simp length-set | else-n-which w ↦ ap length w.which-is ]
 
 returns : tie.Need-returns
 returns c =
     record {
       count = refl;
-      instants_kept = ⊎_elim (λ w. w.1) (λ w. w.1 ∙ sym (set_out _ _ _ w.0.left)) c.before.if-n-when.branch;
-      places_kept = ⊎_elim (λ w. w.1) (λ w. w.1 ∙ sym (set_out _ _ _ w.0.left)) c.if-n-which.branch;
+      instants_kept = elim c.if-n-when.branch [ then-n-when w ↦ w.when-is | else-n-when w ↦ w.when-is ∙ sym (set_out _ _ _ w.if-n-when.false) ];
+      places_kept = elim c.if-n-which.branch [ then-n-which w ↦ w.which-is | else-n-which w ↦ w.which-is ∙ sym (set_out _ _ _ w.if-n-which.false) ];
     }
 
 pub keep_spec : {M : Type 1} → statement M

@@ -2,12 +2,12 @@ use Rattle.events.proofs.Choosing.{Seeks, seek_start, seek_one, seek_end}
 use Rattle.events.specs.declared.Occurrence.{Occurrence}
 use lib.ListN.{get_or}
 use mathlib.Core.Bool.{true, false}
-use mathlib.Core.Logic.{⊎_elim}
 use mathlib.Core.Path.{◌≡◌, sym, ap, ◌∙◌}
 use Prim.Native.Nat.{ℕ, ◌-◌, ◌≤◌, ◌<◌}
 use native.Mathlib.Omega.{arith}
 use Rattle.events.proofs.steady.next_kept.Statement.{statement}
 use Rattle.events.proofs.steady.next_kept.Tie as tie
+use Rattle.events.proofs.steady.next_kept.Lts.{then-here-best, else-here-best}
 
 abbrev invariant-loop : tie.invariant-loop-i
 invariant-loop when n at index best₀ first₀ i₀ best first i =
@@ -22,31 +22,28 @@ loop_holds c = (omega arith, omega arith, (λ h. absurd (omega arith)), λ o sam
 
 loop_again : tie.Need-loop-i-preserved invariant-loop decreases-loop
 loop_again c =
-    let at-loop-test = c.before.before.before.before in
-    let at-loop = at-loop-test.before in
-    let at-start = at-loop.before in
-    let i = at-loop.loop-i.i in
-    let inv = at-loop.loop-i.invariant in
-    let within = at-loop-test.loop-i-test.true in
-    let when = at-start.args.when.now in
-    ⊎_elim
-    (λ w. (
-      omega (arith, within),
-      omega (arith, within, w.1),
-      (λ h. ap (λ (k : ℕ). get_or when k 0) w.1 ∙ sym w.2),
-      λ o same.
-          seek_one o at-start.args.n at-start.args.at.0 at-start.args.index i at-loop.loop-i.best at-loop.loop-i.first _ c.if-here-best.best
-          (inv.3 o same) within inv.1 (same i within) (λ h. same at-loop.loop-i.best h ∙ inv.2 h) true w.0.taken w.1,
-    ))
-    (λ w. (
-      omega (arith, within),
-      omega (arith, inv.1, w.1),
-      (λ h. ap (λ (k : ℕ). get_or when k 0) w.1 ∙ inv.2 (omega (arith, h, w.1)) ∙ sym w.2),
-      λ o same.
-          seek_one o at-start.args.n at-start.args.at.0 at-start.args.index i at-loop.loop-i.best at-loop.loop-i.first _ c.if-here-best.best
-          (inv.3 o same) within inv.1 (same i within) (λ h. same at-loop.loop-i.best h ∙ inv.2 h) false w.0.left w.1,
-    ))
-    c.if-here-best.branch
+    let i = c.loop-i.i in
+    let inv = c.loop-i.invariant in
+    let within = c.loop-i-test.true in
+    let when = c.args.when.now in
+    elim c.if-here-best.branch [
+      then-here-best w ↦ (
+        omega (arith, within),
+        omega (arith, within, w.best-is),
+        (λ h. ap (λ (k : ℕ). get_or when k 0) w.best-is ∙ sym w.first-is),
+        λ o same.
+            seek_one o c.args.n c.args.at.0 c.args.index i c.loop-i.best c.loop-i.first _ c.if-here-best.best
+            (inv.3 o same) within inv.1 (same i within) (λ h. same c.loop-i.best h ∙ inv.2 h) true w.if-here-best.true w.best-is,
+      )
+    | else-here-best w ↦ (
+        omega (arith, within),
+        omega (arith, inv.1, w.best-is),
+        (λ h. ap (λ (k : ℕ). get_or when k 0) w.best-is ∙ inv.2 (omega (arith, h, w.best-is)) ∙ sym w.first-is),
+        λ o same.
+            seek_one o c.args.n c.args.at.0 c.args.index i c.loop-i.best c.loop-i.first _ c.if-here-best.best
+            (inv.3 o same) within inv.1 (same i within) (λ h. same c.loop-i.best h ∙ inv.2 h) false w.if-here-best.false w.best-is,
+      )
+    ]
 
 returns : tie.Need-returns invariant-loop decreases-loop
 returns c =

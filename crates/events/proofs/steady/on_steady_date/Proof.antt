@@ -1,12 +1,12 @@
 use Rattle.events.proofs.Keeping.{Keeping, keeps_none, keeps_by, keep_start, keep_one, keep_end, event_in, event_out, no_events}
 use Rattle.events.specs.Keeping.{kept_date}
 use lib.ListN.{length}
-use mathlib.Core.Logic.{⊎_elim}
 use mathlib.Core.Path.{refl}
 use Prim.Native.Nat.{◌-◌}
 use native.Mathlib.Omega.{arith}
 use Rattle.events.proofs.steady.on_steady_date.Statement.{statement}
 use Rattle.events.proofs.steady.on_steady_date.Tie as tie
+use Rattle.events.proofs.steady.on_steady_date.Lts.{then-event_first-d, else-event_first-d}
 
 abbrev invariant-loop : tie.invariant-loop-i
 invariant-loop book events d midnight from to when₀ which₀ n count₀ i₀ when which count i =
@@ -49,22 +49,17 @@ on_steady_times_requires c κs =
 
 loop_again : tie.Need-loop-i-preserved invariant-loop decreases-loop
 loop_again c =
-    let at-event-last = c.before.before.before in
-    let at-event-first = at-event-last.before.before.before in
-    let at-loop-test = at-event-first.before.before in
-    let at-loop = at-loop-test.before in
-    let at-start = at-loop.before.before.before.before.before in
-    let book = at-start.args.book.now in
-    let first_read = at-event-first.event_first.ensures.0 in
-    let last_read = at-event-last.event_last.ensures.0 in
-    ⊎_elim
-    (λ w.
-    keep_one at-loop.loop-i.invariant at-loop-test.loop-i-test.true refl (event_in book _ _ _ _ _ _ first_read last_read w.0.taken)
-    (keeps_by w.3.ensures.0 w.8 w.9 w.10) (omega (arith, w.3.ensures.1, w.10)))
-    (λ w.
-    keep_one at-loop.loop-i.invariant at-loop-test.loop-i-test.true refl (event_out book _ _ _ _ _ _ first_read last_read w.0.left)
-    (keeps_by keeps_none w.1 w.2 w.3) (omega (arith, w.3)))
-    c.if-event_first-d.branch
+    let book = c.args.book.now in
+    let first_read = c.event_first.ensures.0 in
+    let last_read = c.event_last.ensures.0 in
+    elim c.if-event_first-d.branch [
+      then-event_first-d w ↦
+          keep_one c.loop-i.invariant c.loop-i-test.true refl (event_in book _ _ _ _ _ _ first_read last_read w.if-event_first-d.true)
+          (keeps_by w.on_steady_times-count.ensures.0 w.when-is w.which-is w.count-is) (omega (arith, w.on_steady_times-count.ensures.1, w.count-is))
+    | else-event_first-d w ↦
+          keep_one c.loop-i.invariant c.loop-i-test.true refl (event_out book _ _ _ _ _ _ first_read last_read w.if-event_first-d.false)
+          (keeps_by keeps_none w.when-is w.which-is w.count-is) (omega (arith, w.count-is))
+    ]
 
 returns : tie.Need-returns invariant-loop decreases-loop
 returns c =

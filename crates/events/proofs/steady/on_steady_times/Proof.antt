@@ -2,12 +2,12 @@ use Rattle.events.proofs.Keeping.{Keeping, keeps_none, keeps_by, keep_start, kee
 use Rattle.events.specs.Keeping.{kept_times}
 use Rattle.records.specs.Records.{event_at}
 use lib.ListN.{length}
-use mathlib.Core.Logic.{⊎_elim}
 use Prim.Native.Nat.{◌-◌, ◌<◌}
 use native.Mathlib.Omega.{arith}
 use borrow.Author.Rules.{rules}
 use Rattle.events.proofs.steady.on_steady_times.Statement.{statement}
 use Rattle.events.proofs.steady.on_steady_times.Tie as tie
+use Rattle.events.proofs.steady.on_steady_times.Lts.{then-from-at, else-from-at}
 
 abbrev invariant-loop : tie.invariant-loop-i
 invariant-loop book place midnight from to when₀ which₀ n event times count₀ i₀ when which count i =
@@ -18,21 +18,16 @@ decreases-loop book place midnight from to when₀ which₀ n event times count�
 
 loop_again : tie.Need-loop-i-preserved invariant-loop decreases-loop
 loop_again c =
-    let at-event-time = c.before.before.before.before in
-    let at-loop-test = at-event-time.before in
-    let at-loop = at-loop-test.before in
-    let at-event-times = at-loop.before in
-    let at-start = at-event-times.before.before.before.before in
-    let e = event_at at-start.args.book.now at-start.args.place in
-    let h : at-loop.loop-i.i < length e.times = omega (arith, at-event-times.event_times-times.ensures.0, at-loop-test.loop-i-test.true) in
-    ⊎_elim
-    (λ w.
-    keep_one at-loop.loop-i.invariant h at-event-time.event_time.ensures.0 (time_in _ _ _ _ _ _ w.0.taken) (keeps_by w.3.ensures w.8 w.9 w.10)
-    (omega (arith, w.3.ensures.count, w.10)))
-    (λ w.
-    keep_one at-loop.loop-i.invariant h at-event-time.event_time.ensures.0 (time_out _ _ _ _ _ _ w.0.left) (keeps_by keeps_none w.1 w.2 w.3)
-    (omega (arith, w.3)))
-    c.if-from-at.branch
+    let e = event_at c.args.book.now c.args.place in
+    let h : c.loop-i.i < length e.times = omega (arith, c.event_times-times.ensures.0, c.loop-i-test.true) in
+    elim c.if-from-at.branch [
+      then-from-at w ↦
+          keep_one c.loop-i.invariant h c.event_time.ensures.0 (time_in _ _ _ _ _ _ w.if-from-at.true)
+          (keeps_by w.keep-count.ensures w.when-is w.which-is w.count-is) (omega (arith, w.keep-count.ensures.count, w.count-is))
+    | else-from-at w ↦
+          keep_one c.loop-i.invariant h c.event_time.ensures.0 (time_out _ _ _ _ _ _ w.if-from-at.false)
+          (keeps_by keeps_none w.when-is w.which-is w.count-is) (omega (arith, w.count-is))
+    ]
 
 same_length : tie.Need-shape_of-when invariant-loop decreases-loop
 same_length c = c.before.loop-i.invariant.long.0
