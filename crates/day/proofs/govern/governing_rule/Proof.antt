@@ -2,9 +2,9 @@ use Rattle.day.proofs.Choosing.{Choosing, choose_start, choose_one, choose_none,
 use lib.ListN.{length}
 use native.Mathlib.Omega.{arith}
 use Prim.Native.Nat.{◌-◌}
-use mathlib.Core.Logic.{⊎_elim}
 use Rattle.day.proofs.govern.governing_rule.Statement.{statement}
 use Rattle.day.proofs.govern.governing_rule.Tie as tie
+use Rattle.day.proofs.govern.governing_rule.Lts.{then-takes, else-takes}
 
 abbrev invariant-loop : tie.invariant-loop-i
 invariant-loop book rules d best₀ i₀ best i = Choosing book rules d.0 best i
@@ -30,14 +30,10 @@ takes_requires c κs =
 
 loop_again : tie.Need-loop-i-preserved invariant-loop decreases-loop
 loop_again c =
-    let at-if1 = c in
-    let at_takes = at-if1.before in
-    let at-loop-test = at_takes.before.before in
-    let at-loop = at-loop-test.before in
-    let at-start = at-loop.before.before.before in
-    ⊎_elim
-    (λ w. choose_one at-loop.loop-i.invariant at-loop-test.loop-i-test.true at-start.requires at_takes.takes.ensures w.0.taken w.1)
-    (λ w. choose_none at-loop.loop-i.invariant at-loop-test.loop-i-test.true at_takes.takes.ensures w.0.left w.1) at-if1.if-takes.branch
+    elim c.if-takes.branch [
+      then-takes w ↦ choose_one c.loop-i.invariant c.loop-i-test.true c.requires c.takes.ensures w.if-takes.true w.best-is
+    | else-takes w ↦ choose_none c.loop-i.invariant c.loop-i-test.true c.takes.ensures w.if-takes.false w.best-is
+    ]
 
 returns : tie.Need-returns invariant-loop decreases-loop
 returns c =

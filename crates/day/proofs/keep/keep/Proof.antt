@@ -61,9 +61,9 @@ returns c =
     let at-start = at-near.before.before.before.before.before.before in
     let args = at-start.args in
     let few = near_few args.book.now args.d.0 (args.d.0 + stretch - 1) args.rules.now in
-    let is = stored args.kept-1.now _ (near_of args.book.now args.rules.now args.d.0 (args.d.0 + stretch - 1)) args.d.0 (args.d.0 + stretch) _
+    let is = stored args.kept.now _ (near_of args.book.now args.rules.now args.d.0 (args.d.0 + stretch - 1)) args.d.0 (args.d.0 + stretch) _
     (omega (arith, few, at-start.requires.1, at-start.requires.2)) at-near.near-n.ensures.1 in
-    is ∙ ap (λ (n : ℕ). wrote args.kept-1.now 0 (args.d.0 ∷ (args.d.0 + stretch) ∷ n ∷ near_of args.book.now args.rules.now args.d.0 (args.d.0 + stretch - 1)))
+    is ∙ ap (λ (n : ℕ). wrote args.kept.now 0 (args.d.0 ∷ (args.d.0 + stretch) ∷ n ∷ near_of args.book.now args.rules.now args.d.0 (args.d.0 + stretch - 1)))
     at-near.near-n.ensures.0
 
 pub keep_spec : {M : Type 1} → statement M

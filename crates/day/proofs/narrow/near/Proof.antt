@@ -1,10 +1,10 @@
-use mathlib.Core.Logic.{⊎_elim}
 use Prim.Native.Nat.{◌-◌}
 use native.Mathlib.Omega.{arith}
 use lib.ListN.{length}
 use Rattle.day.proofs.Narrowing.{Narrowing, narrow_start, narrow_room, narrow_one, narrow_none, narrowed}
 use Rattle.day.proofs.narrow.near.Statement.{statement}
 use Rattle.day.proofs.narrow.near.Tie as tie
+use Rattle.day.proofs.narrow.near.Lts.{then-meets, else-meets}
 
 abbrev invariant-loop : tie.invariant-loop-i
 invariant-loop book rules from to found₀ n₀ i₀ found n i = Narrowing book rules from.0 to.0 found₀ found n i
@@ -67,12 +67,10 @@ loop_less c = omega arith
 
 loop_again : tie.Need-loop-i-preserved invariant-loop decreases-loop
 loop_again c =
-    let at-if1 = c in
-    let at_Meets = at-if1.before in
-    let at-loop-test = at_Meets.before.before in
-    let at-loop = at-loop-test.before in
-    ⊎_elim (λ w. narrow_one at-loop.loop-i.invariant at-loop-test.loop-i-test.true at_Meets.meets.ensures w.0.taken w.1 w.2)
-    (λ w. narrow_none at-loop.loop-i.invariant at-loop-test.loop-i-test.true at_Meets.meets.ensures w.0.left w.1 w.2) at-if1.if-meets.branch
+    elim c.if-meets.branch [
+      then-meets w ↦ narrow_one c.loop-i.invariant c.loop-i-test.true c.meets.ensures w.if-meets.true w.found-is w.n-is
+    | else-meets w ↦ narrow_none c.loop-i.invariant c.loop-i-test.true c.meets.ensures w.if-meets.false w.found-is w.n-is
+    ]
 
 same_length : tie.Need-shape_of-found invariant-loop decreases-loop
 same_length c =

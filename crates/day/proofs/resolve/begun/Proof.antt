@@ -5,15 +5,11 @@ use Rattle.day.proofs.resolve.begun.Tie as tie
 
 returns_2 : tie.Need-returns-then-at-t
 returns_2 c =
-    let at-if1 = c in
-    let at-s = at-if1.before.before.before.before.before.before in
-    rw (at-s.s-1.given.1, le-leb _ _ at-if1.if-at-t.true)
+    rw (c.in-Whole.is, le-leb _ _ c.if-at-t.true)
 
 returns_3 : tie.Need-returns-else-at-t
 returns_3 c =
-    let at-if1 = c in
-    let at-s = at-if1.before.before.before.before.before.before in
-    rw (at-s.s-1.given.1, lt-leb _ _ at-if1.if-at-t.false)
+    rw (c.in-Whole.is, lt-leb _ _ c.if-at-t.false)
 
 pub begun_spec : {M : Type 1} → statement M
 begun_spec = tie.close (tie.spec (λ c. search rules) (λ c. search rules) (λ c. search rules) returns_2 returns_3)

@@ -36,9 +36,6 @@ start c = c.before.before.before.before.before.before.before.before.before.befor
 abbrev today : tie.After-day_holding → tie.After-day_at-today
 today c = c.before.before.before
 
-abbrev today2 : tie.After-day_holding-in-Missing → tie.After-day_at-today
-today2 c = today c.before.before.before
-
 -- yesterday's
 earlier : (c : tie.After-day_holding)
     → let s = start (today c) in held (book_in s) c.day_holding.result ≡ found_on s ((today c).day_at-today.result.0 - 1)
@@ -78,56 +75,54 @@ add_t15 c =
     omega (arith, at-day-at.day_at-today.ensures, date_small s.args.offset0 s.args.ats.now s.args.offsets.now s.args.t.0 s.requires.0)
 
 day_holding_requires : tie.Need-day_holding-requires
-day_holding_requires c κs = (start c.before.before).requires
+day_holding_requires c κs = c.requires
 
 day_holding_requires_2 : tie.Need-day_holding-requires-in-Missing
-day_holding_requires_2 c κs = (start (today c.before.before)).requires
+day_holding_requires_2 c κs = c.requires
 
 day_holding_requires_3 : tie.Need-day_holding-requires-in-Missing-day_holding
-day_holding_requires_3 c κs = (start (today2 c.before.before)).requires
+day_holding_requires_3 c κs = c.requires
 
 returns_3 : tie.Need-returns-in-Whole
 returns_3 c =
-    let at_g = c.before in
-    let e = at_g.before.before in
+    let e = c.before in
     let d = today e in
     let s = start d in (
-      by_first (venue_in s) _ s.args.t.0 d.before.before.before.before.if-t-start.left d.before.if-end-t.left _ d.day_at-today.ensures _
-          (ap (held (book_in s)) (sym at_g.g-1.given.1) ∙ earlier e),
-      placed_at s at_g.g-1.given.1 (today_before e) (on_first (venue_in s) _ s.args.t.0 d.before.before.before.before.if-t-start.left d.before.if-end-t.left _ d.day_at-today.ensures
-          (ap (held (book_in s)) (sym at_g.g-1.given.1) ∙ earlier e)) e.day_holding.ensures.1,
+      by_first (venue_in s) _ s.args.t.0 c.if-t-start.false c.if-end-t.false _ d.day_at-today.ensures _
+          (ap (held (book_in s)) (sym c.in-Whole.is) ∙ earlier e),
+      placed_at s c.in-Whole.is (today_before e) (on_first (venue_in s) _ s.args.t.0 c.if-t-start.false c.if-end-t.false _ d.day_at-today.ensures
+          (ap (held (book_in s)) (sym c.in-Whole.is) ∙ earlier e)) e.day_holding.ensures.1,
     )
 
 returns_4 : tie.Need-returns-in-Whole-day_holding
 returns_4 c =
-    let at-g2 = c.before in
-    let f = at-g2.before.before in
-    let e = f.before.before.before in
-    let d = today2 f in
+    let f = c.before in
+    let e = f.before.before in
+    let d = today e in
     let s = start d in (
-      by_second (venue_in s) _ s.args.t.0 d.before.before.before.before.if-t-start.left d.before.if-end-t.left _ d.day_at-today.ensures
-          (ap (held (book_in s)) (sym f.before.enum_told-1.given.1) ∙ earlier e) _
-          (ap (held (book_in s)) (sym at-g2.g-in-Whole-day_holding-2-1.given.1) ∙ f.day_holding-in-Missing.ensures.0),
-      placed_at s at-g2.g-in-Whole-day_holding-2-1.given.1 refl
-          (on_second (venue_in s) _ s.args.t.0 d.before.before.before.before.if-t-start.left d.before.if-end-t.left _ d.day_at-today.ensures
-          (ap (held (book_in s)) (sym f.before.enum_told-1.given.1) ∙ earlier e)
-          (ap (held (book_in s)) (sym at-g2.g-in-Whole-day_holding-2-1.given.1) ∙ f.day_holding-in-Missing.ensures.0)) f.day_holding-in-Missing.ensures.1,
+      by_second (venue_in s) _ s.args.t.0 c.if-t-start.false c.if-end-t.false _ d.day_at-today.ensures
+          (ap (held (book_in s)) (sym c.in-Missing.is) ∙ earlier e) _
+          (ap (held (book_in s)) (sym c.in-Whole-day_holding.is) ∙ f.day_holding-in-Missing.ensures.0),
+      placed_at s c.in-Whole-day_holding.is refl
+          (on_second (venue_in s) _ s.args.t.0 c.if-t-start.false c.if-end-t.false _ d.day_at-today.ensures
+          (ap (held (book_in s)) (sym c.in-Missing.is) ∙ earlier e)
+          (ap (held (book_in s)) (sym c.in-Whole-day_holding.is) ∙ f.day_holding-in-Missing.ensures.0)) f.day_holding-in-Missing.ensures.1,
     )
 
 returns_5 : tie.Need-returns-in-Missing-day_holding
 returns_5 c =
-    let f = c.before.before.before in
-    let e = f.before.before.before in
-    let d = today2 f in
+    let f = c.before.before in
+    let e = f.before.before in
+    let d = today e in
     let s = start d in (
-      by_third (venue_in s) _ s.args.t.0 d.before.before.before.before.if-t-start.left d.before.if-end-t.left _ d.day_at-today.ensures
-          (ap (held (book_in s)) (sym f.before.enum_told-1.given.1) ∙ earlier e)
-          (ap (held (book_in s)) (sym c.before.enum_told-in-Missing-day_holding-1.given.1) ∙ f.day_holding-in-Missing.ensures.0) _
+      by_third (venue_in s) _ s.args.t.0 c.if-t-start.false c.if-end-t.false _ d.day_at-today.ensures
+          (ap (held (book_in s)) (sym c.in-Missing.is) ∙ earlier e)
+          (ap (held (book_in s)) (sym c.in-Missing-day_holding.is) ∙ f.day_holding-in-Missing.ensures.0) _
           (c.day_holding-in-Missing-day_holding.ensures.0 ∙ ap (found_on s) (add-one _)),
       placed_at s {r = c.day_holding-in-Missing-day_holding.result} refl (add-one _)
-          (on_third (venue_in s) _ s.args.t.0 d.before.before.before.before.if-t-start.left d.before.if-end-t.left _ d.day_at-today.ensures
-          (ap (held (book_in s)) (sym f.before.enum_told-1.given.1) ∙ earlier e)
-          (ap (held (book_in s)) (sym c.before.enum_told-in-Missing-day_holding-1.given.1) ∙ f.day_holding-in-Missing.ensures.0)) c.day_holding-in-Missing-day_holding.ensures.1,
+          (on_third (venue_in s) _ s.args.t.0 c.if-t-start.false c.if-end-t.false _ d.day_at-today.ensures
+          (ap (held (book_in s)) (sym c.in-Missing.is) ∙ earlier e)
+          (ap (held (book_in s)) (sym c.in-Missing-day_holding.is) ∙ f.day_holding-in-Missing.ensures.0)) c.day_holding-in-Missing-day_holding.ensures.1,
     )
 
 pub resolve_phase_spec : {M : Type 1} → statement M
