@@ -31,8 +31,8 @@ takes_requires c κs =
 loop_again : tie.Need-loop-i-preserved invariant-loop decreases-loop
 loop_again c =
     elim c.if-takes.branch [
-      then-takes w ↦ choose_one c.loop-i.invariant c.loop-i-test.true c.requires c.takes.ensures w.if-takes.true w.best-is
-    | else-takes w ↦ choose_none c.loop-i.invariant c.loop-i-test.true c.takes.ensures w.if-takes.false w.best-is
+      | then-takes w ↦ choose_one c.loop-i.invariant c.loop-i-test.true c.requires c.takes.ensures w.if-takes.true w.best-is
+      | else-takes w ↦ choose_none c.loop-i.invariant c.loop-i-test.true c.takes.ensures w.if-takes.false w.best-is
     ]
 
 returns : tie.Need-returns invariant-loop decreases-loop

@@ -14,8 +14,8 @@ now_is : (c : tie.Joined-d-kept) → (c.if-d-kept.kept ≡ kept_after c.args.boo
 now_is c =
     let few = c.if-rules-gt-MOST_RULES.false in
     elim c.if-d-kept.branch [
-      then-d-kept w ↦ rw w.kept-is (w.keep.ensures ∙ after_anew _ c.args.rules.now _ _ c.requires.0 few w.if-d-kept.true, w.keep.auto.kept)
-    | else-d-kept w ↦ rw w.kept-is (after_still _ c.args.rules.now _ _ c.requires.0 few w.if-d-kept.false, refl)
+      | then-d-kept w ↦ rw w.kept-is (w.keep.ensures ∙ after_anew _ c.args.rules.now _ _ c.requires.0 few w.if-d-kept.true, w.keep.auto.kept)
+      | else-d-kept w ↦ rw w.kept-is (after_still _ c.args.rules.now _ _ c.requires.0 few w.if-d-kept.false, refl)
     ]
 
 now_keeps : (c : tie.Joined-d-kept) → KeepsFor c.args.book.now c.args.rules.now c.args.d.0 c.if-d-kept.kept

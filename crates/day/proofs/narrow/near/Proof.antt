@@ -68,8 +68,8 @@ loop_less c = omega arith
 loop_again : tie.Need-loop-i-preserved invariant-loop decreases-loop
 loop_again c =
     elim c.if-meets.branch [
-      then-meets w ↦ narrow_one c.loop-i.invariant c.loop-i-test.true c.meets.ensures w.if-meets.true w.found-is w.n-is
-    | else-meets w ↦ narrow_none c.loop-i.invariant c.loop-i-test.true c.meets.ensures w.if-meets.false w.found-is w.n-is
+      | then-meets w ↦ narrow_one c.loop-i.invariant c.loop-i-test.true c.meets.ensures w.if-meets.true w.found-is w.n-is
+      | else-meets w ↦ narrow_none c.loop-i.invariant c.loop-i-test.true c.meets.ensures w.if-meets.false w.found-is w.n-is
     ]
 
 same_length : tie.Need-shape_of-found invariant-loop decreases-loop

@@ -9,8 +9,8 @@ returns : tie.Need-returns
 returns c =
     let tested = met_tested c.args.s c.args.o c.if-here-better.best c.better.result in
     elim c.if-here-better.branch [
-      then-here-better w ↦ tested true c.better.ensures w.if-here-better.true w.best-is
-    | else-here-better w ↦ tested false c.better.ensures w.if-here-better.false w.best-is
+      | then-here-better w ↦ tested true c.better.ensures w.if-here-better.true w.best-is
+      | else-here-better w ↦ tested false c.better.ensures w.if-here-better.false w.best-is
     ]
 
 pub met_spec : {M : Type 1} → statement M

@@ -55,10 +55,10 @@ loop_again : tie.Need-loop-i-preserved invariant-loop decreases-loop
 loop_again c =
     let z = zone_of c.args.offset0 c.args.ats.now c.args.offsets.now in
     elim c.if-event_first-d.branch [
-      then-event_first-d w ↦
+      | then-event_first-d w ↦
           event_met z _ _ _ _ _ c.loop-i.invariant c.loop-i-test.true refl c.event_first.ensures.0 c.event_last.ensures.0
           w.if-event_first-d.true w.on_times-so_far.ensures.0 w.on_times-so_far.ensures.1 w.so_far-is
-    | else-event_first-d w ↦
+      | else-event_first-d w ↦
           event_passed z _ _ _ _ _ c.loop-i.invariant c.loop-i-test.true refl c.event_first.ensures.0 c.event_last.ensures.0
           w.if-event_first-d.false w.so_far-is
     ]

@@ -26,10 +26,10 @@ loop_again c =
     let h : c.loop-i.i < length e.times = omega (arith, c.event_times-times.ensures.0, c.loop-i-test.true) in
     let asked = sym c.happens.ensures in
     elim c.if-happens.branch [
-      then-happens w ↦
+      | then-happens w ↦
           time_met z _ _ _ e c.loop-i.invariant h c.event_time.ensures.0 c.occurrence-o.ensures (asked ∙ w.if-happens.true)
           (w.so_far-is ∙ w.met-so_far.ensures)
-    | else-happens w ↦
+      | else-happens w ↦
           time_passed z _ _ _ e c.loop-i.invariant h c.event_time.ensures.0 c.occurrence-o.ensures (asked ∙ w.if-happens.false) w.so_far-is
     ]
 

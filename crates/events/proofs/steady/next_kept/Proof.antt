@@ -27,7 +27,7 @@ loop_again c =
     let within = c.loop-i-test.true in
     let when = c.args.when.now in
     elim c.if-here-best.branch [
-      then-here-best w ↦ (
+      | then-here-best w ↦ (
         omega (arith, within),
         omega (arith, within, w.best-is),
         (λ h. ap (λ (k : ℕ). get_or when k 0) w.best-is ∙ sym w.first-is),
@@ -35,7 +35,7 @@ loop_again c =
             seek_one o c.args.n c.args.at.0 c.args.index i c.loop-i.best c.loop-i.first _ c.if-here-best.best
             (inv.3 o same) within inv.1 (same i within) (λ h. same c.loop-i.best h ∙ inv.2 h) true w.if-here-best.true w.best-is,
       )
-    | else-here-best w ↦ (
+      | else-here-best w ↦ (
         omega (arith, within),
         omega (arith, inv.1, w.best-is),
         (λ h. ap (λ (k : ℕ). get_or when k 0) w.best-is ∙ inv.2 (omega (arith, h, w.best-is)) ∙ sym w.first-is),

@@ -53,10 +53,10 @@ loop_again c =
     let first_read = c.event_first.ensures.0 in
     let last_read = c.event_last.ensures.0 in
     elim c.if-event_first-d.branch [
-      then-event_first-d w ↦
+      | then-event_first-d w ↦
           keep_one c.loop-i.invariant c.loop-i-test.true refl (event_in book _ _ _ _ _ _ first_read last_read w.if-event_first-d.true)
           (keeps_by w.on_steady_times-count.ensures.0 w.when-is w.which-is w.count-is) (omega (arith, w.on_steady_times-count.ensures.1, w.count-is))
-    | else-event_first-d w ↦
+      | else-event_first-d w ↦
           keep_one c.loop-i.invariant c.loop-i-test.true refl (event_out book _ _ _ _ _ _ first_read last_read w.if-event_first-d.false)
           (keeps_by keeps_none w.when-is w.which-is w.count-is) (omega (arith, w.count-is))
     ]

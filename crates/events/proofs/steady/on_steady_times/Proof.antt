@@ -21,10 +21,10 @@ loop_again c =
     let e = event_at c.args.book.now c.args.place in
     let h : c.loop-i.i < length e.times = omega (arith, c.event_times-times.ensures.0, c.loop-i-test.true) in
     elim c.if-from-at.branch [
-      then-from-at w ↦
+      | then-from-at w ↦
           keep_one c.loop-i.invariant h c.event_time.ensures.0 (time_in _ _ _ _ _ _ w.if-from-at.true)
           (keeps_by w.keep-count.ensures w.when-is w.which-is w.count-is) (omega (arith, w.keep-count.ensures.count, w.count-is))
-    | else-from-at w ↦
+      | else-from-at w ↦
           keep_one c.loop-i.invariant h c.event_time.ensures.0 (time_out _ _ _ _ _ _ w.if-from-at.false)
           (keeps_by keeps_none w.when-is w.which-is w.count-is) (omega (arith, w.count-is))
     ]
