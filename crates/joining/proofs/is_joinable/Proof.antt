@@ -4,8 +4,7 @@ use Rattle.joining.proofs.is_joinable.Tie as tie
 
 returns_2 : tie.Need-returns-in-Shows
 returns_2 c =
-    let at_last = c.before.before.before in
-    rw at_last.last-1.given.1
+    rw c.in-Shows.is
 
 pub is_joinable_spec : {M : Type 1} → statement M
 is_joinable_spec = tie.close (tie.spec (λ c. search rules) (λ c. search rules) (λ c. search rules) returns_2)

@@ -16,8 +16,7 @@ decreases-loop out₀ at totals place₀ i₀ out place i = length totals - i
 
 loop_holds : tie.Need-loop-i-init invariant-loop decreases-loop
 loop_holds c =
-    let at-start = c.before.before in
-    (omega arith, nothing_yet at-start.args.out-1.now (at-start.args.at) at-start.args.totals.now)
+    (omega arith, nothing_yet c.args.out.now c.args.at c.args.totals.now)
 
 mul_put8 : tie.Need-offset_bounds-totals-i invariant-loop decreases-loop
 mul_put8 c =

@@ -123,7 +123,7 @@ cast_rules : At tie.Need-overflow_cast-rules
 cast_rules c = let l = c.before.before.before.before in omega (arith, (here l).small, (here l).inside)
 
 slice_write_rules : At tie.Need-bounds-rules-rule
-slice_write_rules c = room_rule (here c.before.before.before.before) (sym c.before.before.before.get2-kind.ensures ∙ c.in-3.in-3-own.keys1)
+slice_write_rules c = room_rule (here c.before.before.before.before) (sym c.before.before.before.get2-kind.ensures ∙ c.in-3.is)
 
 add_rule : At tie.Need-overflow_add-rule
 add_rule c = let l = c.before.before.before.before in omega (arith, few l rule_kind, l.before.loop-at.invariant.ruling.total)
@@ -132,13 +132,13 @@ loop_less_2 : At tie.Need-loop-at-smaller-in-3
 loop_less_2 c = omega (arith, behind c.before, (frame (here c.before.before.before.before)).whole)
 
 loop_again_2 : At tie.Need-loop-at-preserved-in-3
-loop_again_2 c = pass_rule (here c.before.before.before.before) (behind c.before) (sym c.before.before.before.get2-kind.ensures ∙ c.in-3.in-3-own.keys1)
+loop_again_2 c = pass_rule (here c.before.before.before.before) (behind c.before) (sym c.before.before.before.get2-kind.ensures ∙ c.in-3.is)
 
 cast_events : At tie.Need-overflow_cast-events
 cast_events c = let l = c.before.before.before.before in omega (arith, (here l).small, (here l).inside)
 
 slice_write_events : At tie.Need-bounds-events-event
-slice_write_events c = room_event (here c.before.before.before.before) (sym c.before.before.before.get2-kind.ensures ∙ c.in-4.in-4-own.keys2)
+slice_write_events c = room_event (here c.before.before.before.before) (sym c.before.before.before.get2-kind.ensures ∙ c.in-4.is)
 
 add_event : At tie.Need-overflow_add-event
 add_event c = let l = c.before.before.before.before in omega (arith, few l event_kind, l.before.loop-at.invariant.eventing.total)
@@ -147,7 +147,7 @@ loop_less_3 : At tie.Need-loop-at-smaller-in-4
 loop_less_3 c = omega (arith, behind c.before, (frame (here c.before.before.before.before)).whole)
 
 loop_again_3 : At tie.Need-loop-at-preserved-in-4
-loop_again_3 c = pass_event (here c.before.before.before.before) (behind c.before) (sym c.before.before.before.get2-kind.ensures ∙ c.in-4.in-4-own.keys2)
+loop_again_3 c = pass_event (here c.before.before.before.before) (behind c.before) (sym c.before.before.before.get2-kind.ensures ∙ c.in-4.is)
 
 loop_less_4 : At tie.Need-loop-at-smaller
 loop_less_4 c = omega (arith, behind c.before, (frame (here c.before.before.before.before)).whole)

@@ -48,13 +48,13 @@ get2_requires : tie.Need-get2-text-requires
 get2_requires c κs = let p = c.before.before.before in omega (arith, p.tag_place.ensures.0, room p)
 
 returns : tie.Need-returns-in-0
-returns c = exact _ _ _ c.in-0.in-0-own.keys1 ∙ ap published (told_at c.before)
+returns c = exact _ _ _ c.in-0.is ∙ ap published (told_at c.before)
 
 returns_2 : tie.Need-returns-in-1
-returns_2 c = granular _ _ _ (wide c.before.before.before) c.in-1.in-1-own.keys2 ∙ ap published (told_at c.before)
+returns_2 c = granular _ _ _ (wide c.before.before.before) c.in-1.is ∙ ap published (told_at c.before)
 
 returns_3 : tie.Need-returns-in-2
-returns_3 c = bounded _ _ _ (wide c.before.before.before) c.in-2.in-2-own.keys3 ∙ ap published (told_at c.before)
+returns_3 c = bounded _ _ _ (wide c.before.before.before) c.in-2.is ∙ ap published (told_at c.before)
 
 returns_4 : tie.Need-returns-in_default
 returns_4 c = started _ _ _ c.in_default.in_default-own.rest.0.0.1 c.in_default.in_default-own.rest.0.1 c.in_default.in_default-own.rest.1 ∙ ap published (told_at c.before)
