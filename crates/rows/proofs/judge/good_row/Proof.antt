@@ -32,55 +32,39 @@ loop_holds : At tie.Need-loop-g-init
 loop_holds c = record { same = row_begin _; inside = omega arith }
 
 returns : At tie.Need-returns-in-Bad
-returns c =
-    let at-stands-at = c.before.before in
-    sym (at-stands-at.before.loop-g.invariant.same ∙ tells at-stands-at c.enum_told-1.given.1)
+returns c = sym (c.loop-g.invariant.same ∙ tells c.before c.in-Bad.is)
 
 returns_2 : At tie.Need-returns-in-End
-returns_2 c =
-    let at-stands-at = c.before.before in
-    sym (at-stands-at.before.loop-g.invariant.same ∙ (tells at-stands-at c.enum_told-in-End-1.given.1).good)
+returns_2 c = sym (c.loop-g.invariant.same ∙ (tells c.before c.in-End.is).good)
 
 returns_3 : At tie.Need-returns-in-Mark
-returns_3 c = absurd (untrue (tells c.before.before c.enum_told-in-Mark-1.given.1).allowed)
+returns_3 c = absurd (untrue (tells c.before c.in-Mark.is).allowed)
 
 read_segment_requires : At tie.Need-read_segment-g-requires
-read_segment_requires c κs = (tells c.before.before c.enum_told-in-Segment-1.given.1).segment
+read_segment_requires c κs = (tells c.before c.in-Segment.is).segment
 
 loop_less : At tie.Need-loop-g-smaller-in-Segment
 loop_less c =
-    let at-read-segment = c.before in
-    let at-enum-told4 = at-read-segment.before in
-    let at-stands-at = at-enum-told4.before.before in
-    segment_after at-stands-at.before.loop-g.invariant (tells at-stands-at at-enum-told4.enum_told-in-Segment-1.given.1) at-read-segment.read_segment-g.ensures
+    let at-stands-at = c.before.before.before in
+    segment_after c.loop-g.invariant (tells at-stands-at c.in-Segment.is) c.read_segment-g.ensures
 
 loop_again : At tie.Need-loop-g-preserved-in-Segment
 loop_again c =
-    let at-read-segment = c.before in
-    let at-enum-told4 = at-read-segment.before in
-    let at-stands-at = at-enum-told4.before.before in
-    segment_going at-stands-at.before.loop-g.invariant (tells at-stands-at at-enum-told4.enum_told-in-Segment-1.given.1) at-read-segment.read_segment-g.ensures
+    let at-stands-at = c.before.before.before in
+    segment_going c.loop-g.invariant (tells at-stands-at c.in-Segment.is) c.read_segment-g.ensures
 
 add_at : At tie.Need-overflow_add-at
 add_at c =
-    let at-stands-at = c.before.before in
-    let at-shared-slice-known = at-stands-at.before.before in
-    omega (
-      arith,
-      (tells at-stands-at c.enum_told-in-Event-1.given.1).inside,
-      at-shared-slice-known.shared_slice_known-1.given (length at-shared-slice-known.before.args.row.now),
-    )
+    omega (arith, (tells c.before c.in-Event.is).inside, c.shared_slice_known-1.given (length c.args.row.now))
 
 sub_waiting : At tie.Need-overflow_sub-waiting
-sub_waiting c = omega (arith, (tells c.before.before c.enum_told-in-Event-1.given.1).some)
+sub_waiting c = omega (arith, (tells c.before c.in-Event.is).some)
 
 loop_less_2 : At tie.Need-loop-g-smaller
-loop_less_2 c = omega (arith, (tells c.before.before c.enum_told-in-Event-1.given.1).inside)
+loop_less_2 c = omega (arith, (tells c.before c.in-Event.is).inside)
 
 loop_again_2 : At tie.Need-loop-g-preserved
-loop_again_2 c =
-    let at-stands-at = c.before.before in
-    event_going at-stands-at.before.loop-g.invariant (tells at-stands-at c.enum_told-in-Event-1.given.1)
+loop_again_2 c = event_going c.loop-g.invariant (tells c.before c.in-Event.is)
 
 pub good_row_spec : {M : Type 1} → statement M
 good_row_spec =

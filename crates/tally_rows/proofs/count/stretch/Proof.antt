@@ -25,12 +25,12 @@ counts c = c.before.before.before
 -- another row begins
 turns : (c : At tie.Else-to-b)
     → let at_rows = (counts c).before.before.before in
-    (at_rows.rows.b-1.0 < (entry at_rows).args.end.0) × (at_rows.rows.b-1.0 < row_end (entry at_rows).args.end.0 at_rows.rows.b-1.0)
+    (at_rows.rows.b.0 < (entry at_rows).args.end.0) × (at_rows.rows.b.0 < row_end (entry at_rows).args.end.0 at_rows.rows.b.0)
 turns c =
     let at-shift2 = counts c in
     let at-part2 = at-shift2.before in
     let at_rows = at-part2.before.before in
-    coming_turn (entry at_rows).requires at_rows.rows.inv at-part2.part-in-rows.ensures at-shift2.shift-in-rows.ensures (omega (arith, c.if-to-b.false))
+    coming_turn (entry at_rows).requires at_rows.rows.invariant at-part2.part-in-rows.ensures at-shift2.shift-in-rows.ensures (omega (arith, c.if-to-b.false))
 
 -- an instant is a number of 64 bits
 small : (c : At tie.Start) → c.args.end.0 < 2 ^ 64
@@ -50,7 +50,7 @@ put_day_requires c κs =
     let at-shift2 = counts at-if1 in
     let at-part2 = at-shift2.before in
     let at_rows = at-part2.before.before in
-    coming_room (entry at_rows).requires at_rows.rows.inv at-part2.part-in-rows.ensures at-shift2.shift-in-rows.ensures (omega (arith, at-if1.if-to-b.false))
+    coming_room (entry at_rows).requires at_rows.rows.invariant at-part2.part-in-rows.ensures at-shift2.shift-in-rows.ensures (omega (arith, at-if1.if-to-b.false))
 
 sub_renew : At tie.Need-overflow_sub-next
 sub_renew c =
@@ -69,7 +69,7 @@ rows_again c =
     let at-if1 = at-put-day.before.before.before.before in
     let at-shift2 = counts at-if1 in
     let at-part2 = at-shift2.before in
-    rolling_next at-part2.before.before.rows.inv at-part2.part-in-rows.ensures at-shift2.shift-in-rows.ensures (omega (arith, at-if1.if-to-b.false))
+    rolling_next at-part2.before.before.rows.invariant at-part2.part-in-rows.ensures at-shift2.shift-in-rows.ensures (omega (arith, at-if1.if-to-b.false))
     at-put-day.put_day-at.ensures at-row-end.row_end-next.ensures c.renew.ensures
 
 same_length : At tie.Need-shape_of-out
