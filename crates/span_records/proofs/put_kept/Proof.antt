@@ -49,7 +49,7 @@ mul_event : At tie.Need-offset_bounds-which-next
 mul_event c = omega (arith, kept c.before, (entry c.before).requires.1)
 
 shared_slice_read_event : At tie.Need-bounds-which-next
-shared_slice_read_event c = omega (arith, kept (turn c), (entry (turn c)).requires.1)
+shared_slice_read_event c = omega (arith, kept c.before.before, c.requires.1)
 
 cast_event : At tie.Need-overflow_cast-event
 cast_event c = let e = its_event (turn c) in omega (arith, e.small, e.frame)
@@ -64,7 +64,7 @@ event_evidence_requires : At tie.Need-event_evidence-requires
 event_evidence_requires c κs = its_event (turn c.before.before.before)
 
 put_event_requires : At tie.Need-put_event-place-requires
-put_event_requires c κs = let l = turn c.before.before.before.before in turn_room _ _ _ _ _ _ l.before.loop-i.inv l.loop-i-test.taken
+put_event_requires c κs = turn_room _ _ _ _ _ _ c.loop-i.invariant c.loop-i-test.true
 
 add_next_kept : At tie.Need-overflow_add-next
 add_next_kept c = omega (arith, kept (written c.before.before))
@@ -73,18 +73,15 @@ next_kept_requires_2 : At tie.Need-next_kept-next-requires-in-loop-i
 next_kept_requires_2 c κs = (entry (written c.before.before)).requires.0
 
 add_i : At tie.Need-overflow_add-i
-add_i c = omega (arith, (written c.before.before.before).loop-i-test.taken)
+add_i c = omega (arith, c.loop-i-test.true)
 
 loop_less : At tie.Need-loop-i-smaller
-loop_less c = omega (arith, (written c.before.before.before).loop-i-test.taken)
+loop_less c = omega (arith, c.loop-i-test.true)
 
 loop_again : At tie.Need-loop-i-preserved
 loop_again c =
-    let at-put-event = c.before.before.before in
-    let at-event-code = at-put-event.before.before in
-    let l = written at-put-event in
-    turn_one _ _ _ _ _ _ l.before.loop-i.inv l.loop-i-test.taken at-event-code.before.before.event_uncertainty.ensures at-event-code.event_code.ensures
-    at-put-event.before.event_evidence.ensures at-put-event.put_event-place.ensures c.next_kept-next-in-loop-i.ensures
+    turn_one _ _ _ _ _ _ c.loop-i.invariant c.loop-i-test.true c.event_uncertainty.ensures c.event_code.ensures c.event_evidence.ensures
+    c.put_event-place.ensures c.next_kept-next-in-loop-i.ensures
 
 returns : At tie.Need-returns
 returns c = turn_end _ _ _ _ _ _ c.before.loop-i.invariant c.loop-i-test.false

@@ -26,11 +26,11 @@ abbrev At : (tie.invariant-loop-i → tie.decreases-loop-i → Type 0) → Type 
 At it = it invariant-loop decreases-loop
 
 -- the turn, from where the next event is at hand and from where it is written
-abbrev turn : At tie.In-Some-2 → At tie.In-loop-i
-turn c = c.before.before
+abbrev turn : At tie.In-Some → At tie.In-loop-i
+turn c = c.before
 
-abbrev written : At tie.After-put_event-place → At tie.In-Some-2
-written c = c.before.before.before.before.before
+abbrev written : At tie.After-put_event-place → At tie.In-Some
+written c = c.before.before.before.before
 
 -- one is left to write
 more : (c : At tie.In-loop-i)
@@ -44,42 +44,38 @@ search_events_requires c κs = let pre = c.before.before.before.before.before.re
 loop_holds : At tie.Need-loop-i-init
 loop_holds c =
     let begun = c.search_events-s.ensures.0 in
-    (begun_count 0 0 _ begun, trail_start _ _ _ c.before.before.before.before.before.before.requires.3 (ap (λ (s : Search). s.best-1) begun))
+    (begun_count 0 0 _ begun, trail_start _ _ _ c.before.before.before.before.before.before.requires.3 (ap (λ (s : Search). s.best) begun))
 
 returns : At tie.Need-returns-in-None
-returns c = let inv = c.before.before.before.loop-i.invariant in record { put = trail_none _ _ _ inv.1 c.enum_told-1.given.1; count = inv.0 }
+returns c = let inv = c.loop-i.invariant in record { put = trail_none _ _ _ inv.1 c.in-None.is; count = inv.0 }
 
 put_event_requires : At tie.Need-put_event-place-requires
 put_event_requires c κs =
-    let at-best = c.before.before.before.before in
-    trail_room _ _ _ (turn at-best).before.loop-i.invariant.1 (more (turn at-best)) _ _ at-best.best-1.given.1
+    let at-some = c.before.before.before in
+    trail_room _ _ _ c.loop-i.invariant.1 (more (turn at-some)) _ _ c.in-Some.is
 
 add_search_events : At tie.Need-overflow_add-index
 add_search_events c =
-    let at-best = written c.before.before in
-    let at-loop = (turn at-best).before in
-    let below = trail_index _ _ _ at-loop.loop-i.inv.1 (more (turn at-best)) _ _ at-best.best-1.given.1 in
-    omega (arith, below, at-loop.loop-i.inv.0, at-loop.before.search_events-s.ensures.1)
+    let at-some = written c.before.before in
+    let below = trail_index _ _ _ c.loop-i.invariant.1 (more (turn at-some)) _ _ c.in-Some.is in
+    omega (arith, below, c.loop-i.invariant.0, c.search_events-s.ensures.1)
 
 search_events_requires_2 : At tie.Need-search_events-next-requires
-search_events_requires_2 c κs =
-    let pre = (turn (written c.before.before)).before.before.before.before.before.before.before.before.requires in
-    (pre.0, pre.1, pre.2)
+search_events_requires_2 c κs = let pre = c.requires in (pre.0, pre.1, pre.2)
 
 add_i : At tie.Need-overflow_add-i
-add_i c = omega (arith, (turn (written c.before.before.before)).loop-i-test.taken)
+add_i c = omega (arith, c.loop-i-test.true)
 
 loop_less : At tie.Need-loop-i-smaller
-loop_less c = omega (arith, (turn (written c.before.before.before)).loop-i-test.taken)
+loop_less c = omega (arith, c.loop-i-test.true)
 
 loop_again : At tie.Need-loop-i-preserved
 loop_again c =
-    let at-put-event = c.before.before.before in
-    let at-best = written at-put-event in
-    let inv = (turn at-best).before.loop-i.inv in (
+    let at-some = written c.before.before.before in
+    let inv = c.loop-i.invariant in (
       inv.0,
-      trail_one _ _ _ inv.1 (more (turn at-best)) _ _ at-best.best-1.given.1 at-put-event.put_event-place.ensures
-          (ap (λ (s : Search). s.best-1) c.search_events-next.ensures.0),
+      trail_one _ _ _ inv.1 (more (turn at-some)) _ _ c.in-Some.is c.put_event-place.ensures
+          (ap (λ (s : Search). s.best) c.search_events-next.ensures.0),
     )
 
 returns_2 : At tie.Need-returns
@@ -94,7 +90,7 @@ put_sought_spec =
     search_events_requires
     loop_holds
     (λ c. search rules)
-    (λ c. c.before.before.before.loop-i.invariant.1.kept)
+    (λ c. c.loop-i.invariant.1.kept)
     returns
     (λ c. search rules)
     put_event_requires
