@@ -28,14 +28,14 @@ shown_in c =
     shown zone (map (event_at book) c.args.events.now) (held_by book c.args.g)
 
 abbrev answer : tie.Start → List ℕ
-answer c = encode_all (shown_forms c.args.g.start-1.at.0 c.args.g.end-1.at.0 (shown_in c))
+answer c = encode_all (shown_forms c.args.g.start.at.0 c.args.g.end.at.0 (shown_in c))
 
 -- its events are those counted
 counted : (c : tie.After-count_events-count) → c.count_events-count.result ≡ length (shown_in (start c)).events
 counted c = c.count_events-count.ensures.0 ∙ sym (length_sorted _)
 
 long : (c : tie.After-count_events-count) → length (answer (start c)) ≡ phase_size + event_size * c.count_events-count.result
-long c = omega (arith, shown_length (start c).args.g.start-1.at.0 (start c).args.g.end-1.at.0 (shown_in (start c)), counted c)
+long c = omega (arith, shown_length (start c).args.g.start.at.0 (start c).args.g.end.at.0 (shown_in (start c)), counted c)
 
 returns : tie.Need-returns-then-out-length
 returns c =
@@ -61,8 +61,8 @@ returns_2 c =
     let at-if1 = at-widest.before in
     let at-count-events = at-if1.before in
     let args = (start at-count-events).args in
-    let from = args.g.start-1.at.0 in
-    let to = args.g.end-1.at.0 in
+    let from = args.g.start.at.0 in
+    let to = args.g.end.at.0 in
     let head = head_form from to (held_by args.book.now args.g) in
     let count = at-count-events.count_events-count.result in
     let is-head = ap phase_of at-phase-of.phase_of.ensures ∙ ap (λ (u : Uncertainty). head u count) at-widest.widest-whole.ensures in

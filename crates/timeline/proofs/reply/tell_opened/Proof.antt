@@ -21,57 +21,39 @@ asked : (c : tie.After-judged_window)
 asked c = judged_as _ _ _ (start c).ranges.start (start c).ranges.end (start c).requires.answer c.judged_window.ensures.1
 
 -- of a venue
-named : (c : tie.In-Venue-2)
-    → let args = (start c.before.before).args in
-    Named args.book.now args.start args.end c.h-1.given.0.0 c.h-1.given.0.1.0 c.h-1.given.0.1.1.0
-named c = judged_venue _ _ _ (sym c.h-1.given.1 ∙ asked c.before.before)
+named : (c : tie.In-Venue) → Named c.args.book.now c.args.start c.args.end c.in-Venue.h c.in-Venue.a c.in-Venue.b
+named c = judged_venue _ _ _ (sym c.in-Venue.is ∙ asked c.before)
 
 tell_empty_requires : tie.Need-tell_empty-requires
-tell_empty_requires c κs =
-    let at_a = c.before.before in
-    (judged_blank _ _ _ (sym at_a.a-1.given.1 ∙ asked at_a.before.before)).window.order
+tell_empty_requires c κs = (judged_blank _ _ _ (sym c.in-Blank.is ∙ asked c.before.before)).window.order
 
 slice_aggregate_tell_venue : tie.Need-slice_bounds-tell_venue-end
-slice_aggregate_tell_venue c =
-    let at-h = c.before.before in
-    sym (length-take-le _ _ (ats_in (start at-h.before.before).requires (named at-h).known))
+slice_aggregate_tell_venue c = sym (length-take-le _ _ (ats_in c.requires (named c).known))
 
 slice_aggregate_tell_venue_2 : tie.Need-slice_bounds-tell_venue-end-in-Venue
-slice_aggregate_tell_venue_2 c =
-    let at-h = c.before.before.before in
-    sym (length-take-le _ _ (offsets_in (start at-h.before.before).requires (named at-h).known))
+slice_aggregate_tell_venue_2 c = sym (length-take-le _ _ (offsets_in c.requires (named c).known))
 
 slice_aggregate_tell_venue_3 : tie.Need-slice_bounds-tell_venue-end-in-Venue-2
-slice_aggregate_tell_venue_3 c =
-    let at-h = c.before.before.before.before in
-    sym (length-take-le _ _ (rules_in (start at-h.before.before).requires (named at-h).known))
+slice_aggregate_tell_venue_3 c = sym (length-take-le _ _ (rules_in c.requires (named c).known))
 
 slice_aggregate_tell_venue_4 : tie.Need-slice_bounds-tell_venue-end-in-Venue-3
-slice_aggregate_tell_venue_4 c =
-    let at-h = c.before.before.before.before.before in
-    sym (length-take-le _ _ (events_in (start at-h.before.before).requires (named at-h).known))
+slice_aggregate_tell_venue_4 c = sym (length-take-le _ _ (events_in c.requires (named c).known))
 
 tell_venue_requires : tie.Need-tell_venue-requires
-tell_venue_requires c κs =
-    let at-h = c.before.before.before.before.before.before in
-    front_ready (start at-h.before.before).requires (named at-h).known
+tell_venue_requires c κs = front_ready c.requires (named c.before).known
 
 returns : tie.Need-returns-in-Refused
-returns c =
-    let at_n = c.before.before in
-    close_refused _ _ _ (sym at_n.n-1.given.1 ∙ asked at_n.before.before) c.refused.ensures
+returns c = close_refused _ _ _ (sym c.in-Refused.is ∙ asked c.before.before) c.refused.ensures
 
 returns_2 : tie.Need-returns-in-Blank
 returns_2 c =
-    let at-tell-empty = c.before.before in
-    let at_a = at-tell-empty.before.before.before in
-    close_empty _ _ _ (judged_blank _ _ _ (sym at_a.a-1.given.1 ∙ asked at_a.before.before)) at-tell-empty.tell_empty.ensures
+    let at-judged-window = c.before.before.before.before.before in
+    close_empty _ _ _ (judged_blank _ _ _ (sym c.in-Blank.is ∙ asked at-judged-window)) c.tell_empty.ensures
 
 returns_3 : tie.Need-returns-in-Venue
 returns_3 c =
-    let at-tell-venue = c.before.before in
-    let at-h = at-tell-venue.before.before.before.before.before.before.before in
-    close_venue _ _ _ (named at-h) _ (front_values (start at-h.before.before).requires (named at-h).known) at-tell-venue.tell_venue.ensures
+    let at-venue = c.before.before.before.before in
+    close_venue _ _ _ (named at-venue) _ (front_values c.requires (named at-venue).known) c.tell_venue.ensures
 
 pub tell_opened_spec : {M : Type 1} → statement M
 tell_opened_spec =

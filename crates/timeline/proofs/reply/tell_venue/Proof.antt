@@ -41,7 +41,7 @@ cut c =
     }
 
 -- there is room for all of it
-fits : (c : tie.Else-out-length) → let l = c.before.before.before in total (covered_in (start l)) (cut l) ≤ length (start l).args.out-1.now
+fits : (c : tie.Else-out-length) → let l = c.before.before.before in total (covered_in (start l)) (cut l) ≤ length (start l).args.out.now
 fits c = omega (arith, c.if-out-length.false, c.before.before.gap_size.ensures.0, c.before.gap_size-2.ensures.0)
 
 walk_size_requires : tie.Need-walk_size-walked-requires

@@ -22,27 +22,27 @@ book_in c = (start c).args.book.now
 slice_aggregate_tell_opened : tie.Need-slice_bounds-tell_opened-end
 slice_aggregate_tell_opened c =
     let at_open = c.before in
-    sym (stored_length (book_in at_open) _ _ (ats_fit (book_in at_open)) at_open.«open».ensures.1)
+    sym (stored_length (book_in at_open) _ _ (ats_fit (book_in at_open)) at_open.open-opened.ensures.1)
 
 slice_aggregate_tell_opened_2 : tie.Need-slice_bounds-tell_opened-end-2
 slice_aggregate_tell_opened_2 c =
     let at_open = c.before.before in
-    sym (stored_length (book_in at_open) _ _ (offsets_fit (book_in at_open)) at_open.«open».ensures.2)
+    sym (stored_length (book_in at_open) _ _ (offsets_fit (book_in at_open)) at_open.open-opened.ensures.2)
 
 slice_aggregate_tell_opened_3 : tie.Need-slice_bounds-tell_opened-end-3
 slice_aggregate_tell_opened_3 c =
     let at_open = c.before.before.before in
-    sym (stored_length (book_in at_open) _ _ (rules_fit (book_in at_open)) at_open.«open».ensures.3)
+    sym (stored_length (book_in at_open) _ _ (rules_fit (book_in at_open)) at_open.open-opened.ensures.3)
 
 slice_aggregate_tell_opened_4 : tie.Need-slice_bounds-tell_opened-end-4
 slice_aggregate_tell_opened_4 c =
     let at_open = c.before.before.before.before in
-    sym (stored_length (book_in at_open) _ _ (events_fit (book_in at_open)) at_open.«open».ensures.4)
+    sym (stored_length (book_in at_open) _ _ (events_fit (book_in at_open)) at_open.open-opened.ensures.4)
 
 tell_opened_requires : tie.Need-tell_opened-requires
 tell_opened_requires c κs =
     let at_open = c.before.before.before.before.before in
-    filled (book_in at_open) _ _ _ _ at_open.«open».ensures (omega arith) (omega arith) (omega arith) (omega arith)
+    filled (book_in at_open) _ _ _ _ at_open.open-opened.ensures (omega arith) (omega arith) (omega arith) (omega arith)
 
 returns : tie.Need-returns
 returns c =
