@@ -12,27 +12,27 @@ use Rattle.tally.proofs.reply.tally_answer.Tie as tie
 slice_aggregate_tell_opened : tie.Need-slice_bounds-tell_opened-end
 slice_aggregate_tell_opened c =
     let at-start = c.before.before.before.before.before.before.before.before in
-    sym (stored_length at-start.args.book.now _ _ (ats_fit at-start.args.book.now) c.before.«open».ensures.1)
+    sym (stored_length at-start.args.book.now _ _ (ats_fit at-start.args.book.now) c.before.open-opened.ensures.1)
 
 slice_aggregate_tell_opened_2 : tie.Need-slice_bounds-tell_opened-end-2
 slice_aggregate_tell_opened_2 c =
     let at-start = c.before.before.before.before.before.before.before.before.before in
-    sym (stored_length at-start.args.book.now _ _ (offsets_fit at-start.args.book.now) c.before.before.«open».ensures.2)
+    sym (stored_length at-start.args.book.now _ _ (offsets_fit at-start.args.book.now) c.before.before.open-opened.ensures.2)
 
 slice_aggregate_tell_opened_3 : tie.Need-slice_bounds-tell_opened-end-3
 slice_aggregate_tell_opened_3 c =
     let at-start = c.before.before.before.before.before.before.before.before.before.before in
-    sym (stored_length at-start.args.book.now _ _ (rules_fit at-start.args.book.now) c.before.before.before.«open».ensures.3)
+    sym (stored_length at-start.args.book.now _ _ (rules_fit at-start.args.book.now) c.before.before.before.open-opened.ensures.3)
 
 slice_aggregate_tell_opened_4 : tie.Need-slice_bounds-tell_opened-end-4
 slice_aggregate_tell_opened_4 c =
     let at-start = c.before.before.before.before.before.before.before.before.before.before.before in
-    sym (stored_length at-start.args.book.now _ _ (events_fit at-start.args.book.now) c.before.before.before.before.«open».ensures.4)
+    sym (stored_length at-start.args.book.now _ _ (events_fit at-start.args.book.now) c.before.before.before.before.open-opened.ensures.4)
 
 tell_opened_requires : tie.Need-tell_opened-requires
 tell_opened_requires c κs =
     let at-start = c.before.before.before.before.before.before.before.before.before.before.before.before in
-    filled at-start.args.book.now _ _ _ _ c.before.before.before.before.before.«open».ensures (omega arith) (omega arith) (omega arith) (omega arith)
+    filled at-start.args.book.now _ _ _ _ c.before.before.before.before.before.open-opened.ensures (omega arith) (omega arith) (omega arith) (omega arith)
 
 returns : tie.Need-returns
 returns c =

@@ -19,63 +19,42 @@ asked c =
     let at-start = c.before.before.before.before.before.before.before in
     judged_as at-start.args.book.now at-start.args.start at-start.args.end at-start.ranges.start at-start.ranges.end at-start.requires.answer c.judged_window.ensures.1
 
--- the entry, from where a venue is judged
-abbrev entry : tie.In-Venue-2 → tie.Start
-entry c = c.before.before.before.before.before.before.before.before.before
-
 -- of a venue
-named : (c : tie.In-Venue-2)
-    → let args = (entry c).args in
-    Named args.book.now args.start args.end c.h-1.given.0.0 c.h-1.given.0.1.0 c.h-1.given.0.1.1.0
-named c = judged_venue _ _ _ (sym c.h-1.given.1 ∙ asked c.before.before)
+named : (c : tie.In-Venue) → Named c.args.book.now c.args.start c.args.end c.in-Venue.h c.in-Venue.a c.in-Venue.b
+named c = judged_venue _ _ _ (sym c.in-Venue.is ∙ asked c.before)
 
 tell_blank_requires : tie.Need-tell_blank-requires
-tell_blank_requires c κs =
-    let at_a = c.before.before in
-    (judged_blank _ _ _ (sym at_a.a-1.given.1 ∙ asked at_a.before.before)).window.order
+tell_blank_requires c κs = (judged_blank _ _ _ (sym c.in-Blank.is ∙ asked c.before.before)).window.order
 
 slice_aggregate_tell_tally : tie.Need-slice_bounds-tell_tally-end
-slice_aggregate_tell_tally c =
-    let at-h = c.before.before in
-    sym (length-take-le _ _ (ats_in (entry at-h).requires (named at-h).known))
+slice_aggregate_tell_tally c = sym (length-take-le _ _ (ats_in c.requires (named c).known))
 
 slice_aggregate_tell_tally_2 : tie.Need-slice_bounds-tell_tally-end-in-Venue
-slice_aggregate_tell_tally_2 c =
-    let at-h = c.before.before.before in
-    sym (length-take-le _ _ (offsets_in (entry at-h).requires (named at-h).known))
+slice_aggregate_tell_tally_2 c = sym (length-take-le _ _ (offsets_in c.requires (named c).known))
 
 slice_aggregate_tell_tally_3 : tie.Need-slice_bounds-tell_tally-end-in-Venue-2
-slice_aggregate_tell_tally_3 c =
-    let at-h = c.before.before.before.before in
-    sym (length-take-le _ _ (rules_in (entry at-h).requires (named at-h).known))
+slice_aggregate_tell_tally_3 c = sym (length-take-le _ _ (rules_in c.requires (named c).known))
 
 slice_aggregate_tell_tally_4 : tie.Need-slice_bounds-tell_tally-end-in-Venue-3
-slice_aggregate_tell_tally_4 c =
-    let at-h = c.before.before.before.before.before in
-    sym (length-take-le _ _ (events_in (entry at-h).requires (named at-h).known))
+slice_aggregate_tell_tally_4 c = sym (length-take-le _ _ (events_in c.requires (named c).known))
 
 tell_tally_requires : tie.Need-tell_tally-requires
 tell_tally_requires c κs =
-    let at-h = c.before.before.before.before.before.before in
-    let n = named at-h in
-    (front_ready (entry at-h).requires n.known, known_covers n.known, n.window.order)
+    let n = named c.before in
+    (front_ready c.requires n.known, known_covers n.known, n.window.order)
 
 returns : tie.Need-returns-in-Refused
-returns c =
-    let at_n = c.before.before in
-    close_refused _ _ _ (sym at_n.n-1.given.1 ∙ asked at_n.before.before) c.refused.ensures
+returns c = close_refused _ _ _ (sym c.in-Refused.is ∙ asked c.before.before) c.refused.ensures
 
 returns_2 : tie.Need-returns-in-Blank
 returns_2 c =
-    let at-tell-blank = c.before.before in
-    let at_a = at-tell-blank.before.before.before in
-    close_empty _ _ _ (judged_blank _ _ _ (sym at_a.a-1.given.1 ∙ asked at_a.before.before)) at-tell-blank.tell_blank.ensures
+    let at-judged-window = c.before.before.before.before.before in
+    close_empty _ _ _ (judged_blank _ _ _ (sym c.in-Blank.is ∙ asked at-judged-window)) c.tell_blank.ensures
 
 returns_3 : tie.Need-returns-in-Venue
 returns_3 c =
-    let at-tell-tally = c.before.before in
-    let at-h = at-tell-tally.before.before.before.before.before.before.before in
-    close_venue _ _ _ (named at-h) _ (front_values (entry at-h).requires (named at-h).known) at-tell-tally.tell_tally.ensures
+    let at-venue = c.before.before.before.before in
+    close_venue _ _ _ (named at-venue) _ (front_values c.requires (named at-venue).known) c.tell_tally.ensures
 
 pub tell_opened_spec : {M : Type 1} → statement M
 tell_opened_spec =
