@@ -24,45 +24,31 @@ decreases-pieces book first ats offsets rules hi start end out₀ row₀ whole�
 abbrev At : (tie.invariant-pieces → tie.decreases-pieces → Type 0) → Type 0
 At it = it invariant-pieces decreases-pieces
 
--- the entry, from a turn of the loop
-abbrev entry : At tie.At-pieces → At tie.Start
-entry c = c.before.before.before.before.before.before.before.before.before
-
 -- the piece at hand, from where its phase is read
-abbrev piece : At tie.After-point_phase-phase → At tie.In-Next-2
-piece c = c.before.before.before.before.before
+abbrev piece : At tie.After-point_phase-phase → At tie.In-Next
+piece c = c.before.before.before.before
 
 -- it comes first
-comes_at : (c : At tie.In-Next-2)
-    → let at-pieces = c.before.before.before.before in
-    let args = (entry at-pieces).args in
-    ComesFirst args.book.now args.offset0 args.ats.now args.offsets.now args.rules.now args.hi.0 at-pieces.pieces.w c.q-1.given.0.0 at-pieces.pieces.edges-1
-comes_at c =
-    let at-next-piece = c.before.before in
-    let at-pieces = at-next-piece.before.before in
-    come _ _ _ (entry at-pieces).requires.0 _ _ at-pieces.pieces.invariant.0 at-next-piece.next_piece.ensures _ c.q-1.given.1
+comes_at : (c : At tie.In-Next)
+    → ComesFirst c.args.book.now c.args.offset0 c.args.ats.now c.args.offsets.now c.args.rules.now c.args.hi.0 c.pieces.w c.in-Next.q c.pieces.edges
+comes_at c = come _ _ _ c.requires.0 _ _ c.pieces.invariant.0 c.next_piece.ensures _ c.in-Next.is
 
 begin_requires : At tie.Need-begin-opening-requires
-begin_requires c κs =
-    let pre = c.before.before.before.before.before.before.before.requires in
-    (pre.0, pre.1, keeps_blank _)
+begin_requires c κs = (c.requires.0, c.requires.1, keeps_blank _)
 
 pieces_holds : At tie.Need-pieces-init
 pieces_holds c = let begun = c.begin-opening.ensures in (begun.0.stands, walked_none _ _ _ _ _ _, begun.1)
 
 next_piece_requires : At tie.Need-next_piece-requires
-next_piece_requires c κs = stands_held c.before.pieces.invariant.0
+next_piece_requires c κs = stands_held c.pieces.invariant.0
 
 point_phase_requires : At tie.Need-point_phase-phase-requires
-point_phase_requires c κs = let fits = (comes_at c.before.before.before.before).fits in (fits.listed, fits.point)
+point_phase_requires c κs = let fits = (comes_at c.before.before.before).fits in (fits.listed, fits.point)
 
 stretch_requires : At tie.Need-stretch-place-requires
 stretch_requires c κs =
-    let at-point-phase = c.before.before.before in
-    let at-q = piece at-point-phase in
-    let at-pieces = at-q.before.before.before.before in
-    walked_coming _ _ _ _ _ _ at-pieces.pieces.inv.1 (comes_at at-q) at-point-phase.point_phase-phase.ensures at-pieces.before.begin-opening.ensures.0
-    (entry at-pieces).requires.2
+    walked_coming _ _ _ _ _ _ c.pieces.invariant.1 (comes_at (piece c.before.before.before)) c.point_phase-phase.ensures c.begin-opening.ensures.0
+    c.requires.2
 
 after_piece_requires : At tie.Need-after_piece-w-requires
 after_piece_requires c κs =
@@ -75,49 +61,36 @@ pieces_less c =
 
 pieces_again : At tie.Need-pieces-preserved-in-Next
 pieces_again c =
-    let at-stretch = c.before.before.before in
-    let at-point-phase = at-stretch.before.before.before.before in
-    let at-q = piece at-point-phase in
-    let inv = at-q.before.before.before.before.pieces.inv in (
-      stands_on c.after_piece-w.ensures (comes_at at-q).stands,
-      walked_next _ _ _ _ _ _ inv.1 (comes_at at-q) at-point-phase.point_phase-phase.ensures c.after_piece-w.ensures at-stretch.stretch-place.ensures,
+    let comes = comes_at (piece c.before.before.before.before.before.before.before) in
+    let inv = c.pieces.invariant in (
+      stands_on c.after_piece-w.ensures comes.stands,
+      walked_next _ _ _ _ _ _ inv.1 comes c.point_phase-phase.ensures c.after_piece-w.ensures c.stretch-place.ensures,
       inv.2,
     )
 
 next_turn_requires : At tie.Need-next_turn-requires
 next_turn_requires c κs =
-    let at-enum-told = c.before.before in
-    let at-next-piece = at-enum-told.before.before in
-    let at-pieces = at-next-piece.before.before in
-    let pre = (entry at-pieces).requires in
-    (pre.0, pre.1, at-pieces.pieces.invariant.2, shown _ _ _ pre.0 _ _ at-pieces.pieces.invariant.0 at-next-piece.next_piece.ensures at-enum-told.enum_told-1.given.1)
+    let pre = c.requires in
+    let inv = c.pieces.invariant in
+    (pre.0, pre.1, inv.2, shown _ _ _ pre.0 _ _ inv.0 c.next_piece.ensures c.in-Done.is)
 
 pieces_less_2 : At tie.Need-pieces-smaller
-pieces_less_2 c =
-    let at_next = c.before in
-    let at-next-turn = at_next.before.before in
-    let at-pieces = at-next-turn.before.before.before.before.before.before.before in
-    turn_fewer (turned _ _ _ _ _ _ at-pieces.pieces.invariant.1 _ _ at-next-turn.next_turn.ensures.0 at_next.next-1.given.1)
+pieces_less_2 c = turn_fewer (turned _ _ _ _ _ _ c.pieces.invariant.1 _ _ c.next_turn.ensures.0 c.in-On.is)
 
 pieces_again_2 : At tie.Need-pieces-preserved
 pieces_again_2 c =
-    let at_next = c.before in
-    let at-next-turn = at_next.before.before in
-    let told = at-next-turn.next_turn.ensures in
-    let counted = at-next-turn.before.before.before.before.before.before.before.pieces.invariant.1 in (
-      (turned _ _ _ _ _ _ counted _ _ told.0 at_next.next-1.given.1).stands,
-      turn_walked _ _ _ _ _ _ counted _ _ told.0 at_next.next-1.given.1,
+    let told = c.next_turn.ensures in
+    let counted = c.pieces.invariant.1 in (
+      (turned _ _ _ _ _ _ counted _ _ told.0 c.in-On.is).stands,
+      turn_walked _ _ _ _ _ _ counted _ _ told.0 c.in-On.is,
       told.1,
     )
 
 same_length : At tie.Need-shape_of-out
-same_length c = c.before.before.before.before.before.before.before.before.before.pieces.invariant.1.kept-1
+same_length c = c.pieces.invariant.1.kept
 
 returns : At tie.Need-returns
-returns c =
-    let at-next-turn = c.before.before in
-    let at-pieces = at-next-turn.before.before.before.before.before.before.before in
-    walk_counted _ _ _ _ _ _ at-pieces.pieces.invariant.1 _ _ at-next-turn.next_turn.ensures.0 c.enum_told-in-Done-next_turn-1.given.1 at-pieces.before.begin-opening.ensures.0
+returns c = walk_counted _ _ _ _ _ _ c.pieces.invariant.1 _ _ c.next_turn.ensures.0 c.in-Done-next_turn.is c.begin-opening.ensures.0
 
 pub count_walk_spec : {M : Type 1} → statement M
 count_walk_spec =

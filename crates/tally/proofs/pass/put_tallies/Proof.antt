@@ -10,7 +10,7 @@ opens : (c : tie.After-first_row-current)
     let at-earlier = at-later2.before.before.before in
     let args = at-earlier.before.before.before.before.before.before.before.before.before.args in
     Opens args.book.now args.h args.ats.now args.offsets.now args.rules.now args.events.now args.start.0 args.end.0 args.out.now
-    c.first_row-current.result c.first_row-current.new.1.1.0 c.first_row-current.new.1.1.1.0
+    c.first_row-current.result c.first_row-current.new.row c.first_row-current.new.whole
     at-earlier.earlier.result at-later2.before.before.later.result at-later2.before.earlier-2.result at-later2.later-2.result
 opens c =
     let at-later2 = c.before.before.before in
