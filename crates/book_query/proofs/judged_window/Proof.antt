@@ -26,41 +26,20 @@ judged {o} {m = m} {n = n} e i j f g = numbered o m n (sym (ap₂ judged_by e (s
 
 returns : tie.Need-returns-in-Refused
 returns c =
-    let at-opened = c.before in
-    let args = at-opened.before.before.args in
-    numbered args.opened-1 args.start args.end (sym (ap (λ (o : Opened). judged_by o (window_of args.start args.end)) at-opened.opened-1.given.1))
+    let args = c.args in
+    numbered args.opened args.start args.end (sym (ap (λ (o : Opened). judged_by o (window_of args.start args.end)) c.in-Refused.is))
 
 returns_2 : tie.Need-returns-in-Refused-asked_window
-returns_2 c =
-    let at_n = c.before in
-    let at-asked-window = at_n.before.before in
-    let at-enum-told = at-asked-window.before in
-    let fits = at-enum-told.before.before.ranges in
-    judged at-enum-told.enum_told-1.given.1 fits.start fits.end at-asked-window.asked_window.ensures.1 at_n.n-1.given.1
+returns_2 c = judged c.in-Empty.is c.ranges.start c.ranges.end c.asked_window.ensures.1 c.in-Refused-asked_window.is
 
 returns_3 : tie.Need-returns-in-Between
-returns_3 c =
-    let at_a = c.before in
-    let at-asked-window = at_a.before.before in
-    let at-enum-told = at-asked-window.before in
-    let fits = at-enum-told.before.before.ranges in
-    judged at-enum-told.enum_told-1.given.1 fits.start fits.end at-asked-window.asked_window.ensures.1 at_a.a-1.given.1
+returns_3 c = judged c.in-Empty.is c.ranges.start c.ranges.end c.asked_window.ensures.1 c.in-Between.is
 
 returns_4 : tie.Need-returns-in-Refused-asked_window-2
-returns_4 c =
-    let at-n2 = c.before in
-    let at-asked-window2 = at-n2.before.before in
-    let at-opened2 = at-asked-window2.before.before in
-    let fits = at-opened2.before.before.ranges in
-    judged at-opened2.opened-in-Venue-1.given.1 fits.start fits.end at-asked-window2.asked_window-in-Venue.ensures.1 at-n2.n-in-Refused-asked_window-2-1.given.1
+returns_4 c = judged c.in-Venue.is c.ranges.start c.ranges.end c.asked_window-in-Venue.ensures.1 c.in-Refused-asked_window-2.is
 
 returns_5 : tie.Need-returns-in-Between-asked_window
-returns_5 c =
-    let at-a2 = c.before in
-    let at-asked-window2 = at-a2.before.before in
-    let at-opened2 = at-asked-window2.before.before in
-    let fits = at-opened2.before.before.ranges in
-    judged at-opened2.opened-in-Venue-1.given.1 fits.start fits.end at-asked-window2.asked_window-in-Venue.ensures.1 at-a2.a-in-Between-asked_window-2-1.given.1
+returns_5 c = judged c.in-Venue.is c.ranges.start c.ranges.end c.asked_window-in-Venue.ensures.1 c.in-Between-asked_window.is
 
 pub judged_window_spec : {M : Type 1} → statement M
 judged_window_spec =
