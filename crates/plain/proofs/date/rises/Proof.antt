@@ -44,10 +44,10 @@ more c = omega (arith, c.before.before.rule_points-n.ensures.0, c.loop-i-test.tr
 -- it stands where the code finds it
 found : (c : At tie.After-to_utc_at-own)
     → let l = c.before.before.before in
-    c.to_utc_at-own.result.at-1.0 ≡ when l (get_or (points_in l) l.loop-i.i midnight).time
+    c.to_utc_at-own.result.at.0 ≡ when l (get_or (points_in l) l.loop-i.i midnight).time
 found c =
     let args = (entry c.before.before.before).args in
-    ap (λ (b : Boundary). b.at-1.0)
+    ap (λ (b : Boundary). b.at.0)
     (c.to_utc_at-own.ensures ∙ ap (λ (x : ℕ). boundary_at (zone_of args.offset0 args.ats.now args.offsets.now) args.d.0 x Exact) c.before.point_time.ensures.0)
 
 rule_points_requires : At tie.Need-rule_points-n-requires

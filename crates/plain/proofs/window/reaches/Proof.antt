@@ -50,8 +50,8 @@ answers c e = let s = entry c in left_first (zone_in s) (rules_in s) s.args.end.
 -- the midnight of the last date that the look told of
 midnight : (c : At tie.After-to_utc_at-opening)
     → let at-plain-until = c.before.before.before.before.before in
-    c.to_utc_at-opening.result.at-1.0 ≡ taken_at (zone_in (entry (turn at-plain-until))) (at-plain-until.plain_until-next.result.0 - 1) 0
-midnight c = ap (λ (b : Boundary). b.at-1.0) c.to_utc_at-opening.ensures
+    c.to_utc_at-opening.result.at.0 ≡ taken_at (zone_in (entry (turn at-plain-until))) (at-plain-until.plain_until-next.result.0 - 1) 0
+midnight c = ap (λ (b : Boundary). b.at.0) c.to_utc_at-opening.ensures
 
 loop_holds : At tie.Need-loop-date-init
 loop_holds c = (omega arith, refl)
@@ -89,7 +89,7 @@ loop_again c =
     let l = turn at-plain-until in
     let s = entry l in (
       at-plain-until.plain_until-next.ensures.most,
-      l.loop-date.inv.1 ∙ left_goes (zone_in s) (rules_in s) s.args.end.0 _ _ _ at-plain-until.before.loop-date-test.true at-plain-until.plain_until-next.ensures
+      l.loop-date.invariant.1 ∙ left_goes (zone_in s) (rules_in s) s.args.end.0 _ _ _ at-plain-until.before.loop-date-test.true at-plain-until.plain_until-next.ensures
           at-if2.if-next-date.false (midnight at-to-utc-at) c.if-end-at.false,
     )
 

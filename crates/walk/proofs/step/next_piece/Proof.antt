@@ -15,30 +15,19 @@ cast_rule_points c = search rules
 
 rule_points_requires : tie.Need-rule_points-n-requires
 rule_points_requires c κs =
-    let at-governed = c.before.before in
-    let at-start = at-governed.before.before.before in
-    held_listed at-start.args.book.now at-start.args.w _ at-start.requires at-governed.governed-1.given.1
+    held_listed c.args.book.now c.args.w _ c.requires c.in-By.is
 
 showing_requires : tie.Need-showing-k-requires
 showing_requires c κs =
-    let at-showing-arg = c in
-    let at-rule-points = at-showing-arg.before in
-    let at-governed = at-rule-points.before.before.before in
-    let at-start = at-governed.before.before.before in
-    let n = at-rule-points.rule_points-n.ensures in
-    let m = held_next at-start.args.book.now at-start.args.w _ at-start.requires at-governed.governed-1.given.1 in
-    (omega (arith, n.0, m), omega (arith, n, at-showing-arg.showing-arg-1.given))
+    let n = c.rule_points-n.ensures in
+    let m = held_next c.args.book.now c.args.w _ c.requires c.in-By.is in
+    (omega (arith, n.0, m), omega (arith, n, c.showing-arg-1.given))
 
 returns : tie.Need-returns-then-n-k
 returns c =
-    let at-if1 = c in
-    let at-showing = at-if1.before in
-    let at-rule-points = at-showing.before.before in
-    let at-governed = at-rule-points.before.before.before in
-    let at-start = at-governed.before.before.before in
-    let args = at-start.args in
-    piece_none args.book.now args.edges.now args.hi.0 args.w at-governed.governed-1.given.1
-    at-rule-points.rule_points-n.ensures.0 at-showing.showing-k.ensures at-if1.if-n-k.true
+    let args = c.args in
+    piece_none args.book.now args.edges.now args.hi.0 args.w c.in-By.is
+    c.rule_points-n.ensures.0 c.showing-k.ensures c.if-n-k.true
 
 mul_start : tie.Need-offset_bounds-edges-k
 mul_start c = search rules
@@ -62,24 +51,14 @@ earlier_requires : tie.Need-earlier-requires
 earlier_requires c κs = tt
 
 returns_2 : tie.Need-returns-in-Nothing
-returns_2 c =
-    let at-enum-told = c in
-    let at-start = at-enum-told.before.before.before in
-    piece_nothing at-start.args.book.now at-start.args.edges.now at-start.args.hi.0 at-start.args.w at-enum-told.enum_told-1.given.1
+returns_2 c = piece_nothing c.args.book.now c.args.edges.now c.args.hi.0 c.args.w c.in-Nothing.is
 
 returns_3 : tie.Need-returns-else-n-k
 returns_3 c =
-    let at-earlier = c in
-    let at-later = at-earlier.before in
-    let at-if1 = at-later.before.before.before.before.before in
-    let at-showing = at-if1.before in
-    let at-rule-points = at-showing.before.before in
-    let at-governed = at-rule-points.before.before.before in
-    let at-start = at-governed.before.before.before in
-    let args = at-start.args in
-    piece_one args.book.now args.edges.now args.hi.0 args.w at-governed.governed-1.given.1
-    at-rule-points.rule_points-n.ensures.0 at-showing.showing-k.ensures (omega (arith, at-if1.if-n-k.false))
-    (piece_by args.edges.now args.hi.0 args.w _ _ at-later.later.ensures at-earlier.earlier.ensures)
+    let args = c.args in
+    piece_one args.book.now args.edges.now args.hi.0 args.w c.in-By.is
+    c.rule_points-n.ensures.0 c.showing-k.ensures (omega (arith, c.if-n-k.false))
+    (piece_by args.edges.now args.hi.0 args.w _ _ c.later.ensures c.earlier.ensures)
 
 pub next_piece_spec : {M : Type 1} → statement M
 next_piece_spec =

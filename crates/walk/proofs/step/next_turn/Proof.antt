@@ -23,7 +23,7 @@ venue_in c = venue_by (zone_of c.args.offset0 c.args.ats.now c.args.offsets.now)
 further : (c : tie.Else-next-began)
     → let at_Onward = c.before.before.before in
     let w = at_Onward.before.before.before.before.before.before.before.before.args.w in
-    (w.began-1.0 < at_Onward.onward-next.result.0) × (0 < w.turns)
+    (w.began.0 < at_Onward.onward-next.result.0) × (0 < w.turns)
 further c =
     let at_Onward = c.before.before.before in
     let at-start = at_Onward.before.before.before.before.before.before.before.before in
@@ -31,10 +31,10 @@ further c =
 
 -- whether it goes on, as the code asks
 tested : (c : tie.After-onward-next) → let args = c.before.before.before.before.before.before.before.before.args in
-    goes_on (zone_of args.offset0 args.ats.now args.offsets.now) args.hi.0 args.w ≡ not (leb c.onward-next.result.0 args.w.began-1.0 || eqb args.w.turns 0)
+    goes_on (zone_of args.offset0 args.ats.now args.offsets.now) args.hi.0 args.w ≡ not (leb c.onward-next.result.0 args.w.began.0 || eqb args.w.turns 0)
 tested c =
     let w = c.before.before.before.before.before.before.before.before.args.w in
-    ap (λ (n : ℕ). not (leb n w.began-1.0 || eqb w.turns 0)) (sym c.onward-next.ensures)
+    ap (λ (n : ℕ). not (leb n w.began.0 || eqb w.turns 0)) (sym c.onward-next.ensures)
 
 onward_requires : tie.Need-onward-next-requires
 onward_requires c κs = c.before.before.before.before.before.before.before.requires.0

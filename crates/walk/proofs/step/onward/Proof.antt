@@ -21,7 +21,7 @@ returns_2 c =
     let at-earlier = c in
     let at-midnight-after = at-earlier.before.before in
     let at-if1 = at-midnight-after.before in
-    rw (le-ltb _ _ at-if1.if-began-cursor.false) (at-earlier.earlier.ensures ∙ ap (min _) (ap (λ (b : Boundary). b.at-1.0) at-midnight-after.midnight_after-midnight.ensures))
+    rw (le-ltb _ _ at-if1.if-began-cursor.false) (at-earlier.earlier.ensures ∙ ap (min _) (ap (λ (b : Boundary). b.at.0) at-midnight-after.midnight_after-midnight.ensures))
 
 pub onward_spec : {M : Type 1} → statement M
 onward_spec = tie.close (tie.spec returns midnight_after_requires (λ c κs. search rules) returns_2)

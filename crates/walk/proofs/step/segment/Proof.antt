@@ -1,10 +1,10 @@
 use mathlib.Core.Path.{refl, ◌∙◌}
-use mathlib.Core.Logic.{⊎_elim}
 use Rattle.walk.proofs.Pieces.{by_point, by_next, by_midnight, whole_span}
 use native.Mathlib.Omega.{arith}
 use Rattle.venue.proofs.Laws.{good_rule}
 use borrow.Author.Rules.{rules}
 use Rattle.walk.proofs.step.segment.Statement.{statement}
+use Rattle.walk.proofs.step.segment.Lts.{then-k-rule_points, else-k-rule_points}
 use Rattle.walk.proofs.step.segment.Tie as tie
 
 rule_uncertainty_requires : tie.Need-rule_uncertainty-published-requires
@@ -52,9 +52,10 @@ returns c =
     let u = at-point-time.before.rule_uncertainty-published.ensures in
     let n = at-if1.before.rule_points.ensures.0 in (
       whole_span _ _ args.q _ _ _ (by_point _ _ args.q _ _ _ u at-point-time.point_time.ensures.0 at-to-utc-at.to_utc_at-own.ensures)
-          (⊎_elim
-          (λ w. by_next args.book.now _ args.q _ _ _ u (omega (arith, w.0.taken, n)) w.1.ensures.0 (w.3 ∙ w.2.ensures))
-          (λ w. by_midnight args.book.now _ args.q _ _ u (omega (arith, w.0.left, n)) (w.2 ∙ w.1.ensures)) at-if1.if-k-rule_points.branch)
+          (elim at-if1.if-k-rule_points.branch [
+            | then-k-rule_points w ↦ by_next args.book.now _ args.q _ _ _ u (omega (arith, w.if-k-rule_points.true, n)) w.point_time-then-k-rule_points.ensures.0 (w.next-is ∙ w.to_utc_at-next.ensures)
+            | else-k-rule_points w ↦ by_midnight args.book.now _ args.q _ _ u (omega (arith, w.if-k-rule_points.false, n)) (w.next-is ∙ w.midnight_after-next.ensures)
+          ])
           c.point_phase.ensures.0,
       refl,
     )

@@ -48,70 +48,54 @@ enum_known_governed c = search rules
 
 date_boundaries_requires : tie.Need-date_boundaries-clear-requires
 date_boundaries_requires c κs =
-    let at-date-boundaries-arg = c in
-    let at-governed = at-date-boundaries-arg.before.before in
-    let at-governing-near = at-governed.before.before in
-    let at-date-of = at-governing-near.before.before in
-    let at-steady-offset = at-date-of.before in
-    let at-start = at-steady-offset.before.before.before.before.before in
-    let args = at-start.args in (
-      at-start.requires.0,
-      stands_at args.book.now at-governing-near.governing_near-governed.ensures.1 at-governed.governed-1.given.1,
-      omega
-          (arith, at-date-boundaries-arg.date_boundaries-arg-1.given),
-      steady_on args.offset0 args.ats.now args.offsets.now at-start.requires.0
-          args.cursor.0 _ at-steady-offset.steady_offset-steady.ensures _ at-date-of.date_of-date.ensures,
+    let args = c.args in (
+      c.requires.0,
+      stands_at args.book.now c.governing_near-governed.ensures.1 c.in-By.is,
+      omega (arith, c.date_boundaries-arg-1.given),
+      steady_on args.offset0 args.ats.now args.offsets.now c.requires.0
+          args.cursor.0 _ c.steady_offset-steady.ensures _ c.date_of-date.ensures,
     )
 
 returns : tie.Need-returns-in-Nothing
 returns c =
-    let at-enum-told = c in
-    let at-governing-near = at-enum-told.before.before in
-    let at-date-of = at-governing-near.before.before in
-    let at-start = at-date-of.before.before.before.before.before.before in
-    let args = at-start.args in
+    let args = c.args in
     let zoneOf-is = zone_of args.offset0 args.ats.now args.offsets.now in (
       begun args.book.now zoneOf-is (governing_rule (map (rule_at args.book.now) args.rules.now)) args.turns args.cursor _ _ true _
-          at-date-of.date_of-date.ensures at-governing-near.governing_near-governed.ensures.0
-          (kept_nothing args.book.now zoneOf-is _ _ at-enum-told.enum_told-1.given.1),
-      at-governing-near.governing_near-governed.ensures.3,
+          c.date_of-date.ensures c.governing_near-governed.ensures.0
+          (kept_nothing args.book.now zoneOf-is _ _ c.in-Nothing.is),
+      c.governing_near-governed.ensures.3,
       record {
         left = refl;
         began = refl;
         at = refl;
-        date = at-date-of.date_of-date.ensures;
-        place = at-governing-near.governing_near-governed.ensures.2;
+        date = c.date_of-date.ensures;
+        place = c.governing_near-governed.ensures.2;
         next = refl;
-        edges = sym (ap (λ (g : Governed). edges_after args.book.now zoneOf-is at-date-of.date_of-date.result.0 g args.edges.now) at-enum-told.enum_told-1.given.1);
-        keeps = at-governing-near.governing_near-governed.ensures.4;
+        edges = sym (ap (λ (g : Governed). edges_after args.book.now zoneOf-is c.date_of-date.result.0 g args.edges.now) c.in-Nothing.is);
+        keeps = c.governing_near-governed.ensures.4;
       },
     )
 
 returns_2 : tie.Need-returns-in-By
 returns_2 c =
-    let at-date-boundaries = c in
-    let at-governed = at-date-boundaries.before.before.before in
-    let at-governing-near = at-governed.before.before in
-    let at-date-of = at-governing-near.before.before in
-    let at-start = at-date-of.before.before.before.before.before.before in
-    let args = at-start.args in
+    let args = c.args in
     let zoneOf-is = zone_of args.offset0 args.ats.now args.offsets.now in (
       begun args.book.now zoneOf-is (governing_rule (map (rule_at args.book.now) args.rules.now)) args.turns args.cursor
-          at-date-of.date_of-date.result _ _ _ at-date-of.date_of-date.ensures
-          (sym (ap (ruled args.book.now) at-governed.governed-1.given.1) ∙ at-governing-near.governing_near-governed.ensures.0) (kept_rule
-          args.book.now zoneOf-is at-date-of.date_of-date.result.0 _ _ _ refl
-          (stands_at args.book.now at-governing-near.governing_near-governed.ensures.1 at-governed.governed-1.given.1)
-          at-date-boundaries.date_boundaries-clear.ensures.0 at-date-boundaries.date_boundaries-clear.ensures.1),
-      at-governing-near.governing_near-governed.ensures.3,
+          c.date_of-date.result _ _ _ c.date_of-date.ensures
+          (sym (ap (ruled args.book.now) c.in-By.is) ∙ c.governing_near-governed.ensures.0) (kept_rule
+          args.book.now zoneOf-is c.date_of-date.result.0 _ _ _ refl
+          (stands_at args.book.now c.governing_near-governed.ensures.1 c.in-By.is)
+          c.date_boundaries-clear.ensures.0 c.date_boundaries-clear.ensures.1),
+      c.governing_near-governed.ensures.3,
       record {
         left = refl;
         began = refl;
         at = refl;
-        date = at-date-of.date_of-date.ensures;
-        place = sym (ap place_of at-governed.governed-1.given.1) ∙ at-governing-near.governing_near-governed.ensures.2;
+        date = c.date_of-date.ensures;
+        place = sym (ap place_of c.in-By.is) ∙ c.governing_near-governed.ensures.2;
         next = refl;
-        edges = at-date-boundaries.date_boundaries-clear.ensures.0;
-        keeps = at-governing-near.governing_near-governed.ensures.4;
+        edges = c.date_boundaries-clear.ensures.0;
+        keeps = c.governing_near-governed.ensures.4;
       },
     )
 

@@ -106,7 +106,7 @@ loop_again c =
       filling_next zoneOf-is ruleAt-is args.d.0 _ _ _ _ _ at-loop.loop-i.invariant.0
           (omega (arith, at-rule-points.rule_points-n.ensures, at-start.requires.2)) (omega (arith, at-rule-points.rule_points-n.ensures)) _
           (omega (arith, at-rule-points.rule_points-n.ensures.0, at-loop-test.loop-i-test.true)) at-later.later-before.ensures (ap
-          (λ (b : Boundary). b.at-1.0)
+          (λ (b : Boundary). b.at.0)
           (at-to-utc-at.to_utc_at-own.ensures ∙ ap (λ (x : ℕ). boundary_at zoneOf-is args.d.0 x Exact) at-point-time.point_time.ensures.0)),
       clear_next zoneOf-is ruleAt-is args.d.0 _ _ _ at-loop.loop-i.invariant.1 _ (ap (λ (b : Boundary). b.uncertainty)
           (at-to-utc-at.to_utc_at-own.ensures ∙ ap (λ (x : ℕ). boundary_at zoneOf-is args.d.0 x Exact) at-point-time.point_time.ensures.0))
@@ -157,7 +157,7 @@ returns c =
     let ruleAt-is = rule_at args.book.now args.rule in
     let n = at-rule-points.rule_points-n.ensures in (
       filled zoneOf-is ruleAt-is args.d.0 _ _ _ _ _ at-loop.loop-i.invariant.0 (omega (arith, n, at-start.requires.2)) (omega (arith, n)) _ _ n.0
-          at-loop-test.loop-i-test.false at-later2.later.ensures (ap (λ (b : Boundary). b.at-1.0) at-midnight-after.midnight_after-midnight.ensures),
+          at-loop-test.loop-i-test.false at-later2.later.ensures (ap (λ (b : Boundary). b.at.0) at-midnight-after.midnight_after-midnight.ensures),
       clear_all zoneOf-is ruleAt-is args.d.0 _ _ _ at-loop.loop-i.invariant.1 (omega (arith, n.0, at-loop-test.loop-i-test.false, at-loop.loop-i.invariant.0.most)) _
           (ap (λ (b : Boundary). b.uncertainty) at-midnight-after.midnight_after-midnight.ensures) at-is-exact2.is_exact.ensures,
     )

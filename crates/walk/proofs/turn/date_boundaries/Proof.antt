@@ -11,31 +11,26 @@ use Rattle.walk.proofs.turn.date_boundaries.Statement.{statement}
 use Rattle.walk.proofs.turn.date_boundaries.Tie as tie
 
 -- the date's shift is the steady one
-steadily : (c : tie.In-By-2)
-    → let args = c.before.before.before.before.before.before.args in
-    let o = c.steady-1.given.0.0 in
+steadily : (c : tie.In-By)
+    → let args = c.args in
+    let o = c.in-By.offset in
     DayOnWall o args.d.0 × Shifts (zone_of args.offset0 args.ats.now args.offsets.now) args.d.0 (midnight_by o args.d.0)
-steadily c = shifts_by c.steady-1.given.1 c.before.before.before.before.before.before.requires.3
+steadily c = shifts_by c.in-By.is c.requires.3
 
 steady_midnight_requires : tie.Need-steady_midnight-requires
-steady_midnight_requires c κs = (steadily c.before).0
+steady_midnight_requires c κs = (steadily c).0
 
 steady_boundaries_requires : tie.Need-steady_boundaries-requires
 steady_boundaries_requires c κs =
-    let at-steady-midnight = c.before in
-    let at-steady = at-steady-midnight.before.before in
-    let pre = at-steady.before.before.before.before.before.before.requires in
-    (pre.1, pre.2, omega (arith, at-steady-midnight.steady_midnight.ensures, midnight_fits (steadily at-steady).0))
+    let at-by = c.before.before in
+    (c.requires.1, c.requires.2, omega (arith, c.steady_midnight.ensures, midnight_fits (steadily at-by).0))
 
 returns_2 : tie.Need-returns-in-By
 returns_2 c =
-    let at-steady-boundaries = c.before.before in
-    let at-steady-midnight = at-steady-boundaries.before.before in
-    let at-steady = at-steady-midnight.before.before in
-    let at-start = at-steady.before.before.before.before.before.before in
-    let s = (steadily at-steady).1 in (
-      at-steady-boundaries.steady_boundaries.ensures _ _ (subst (Shifts _ _) (sym at-steady-midnight.steady_midnight.ensures) s),
-      (λ e. shifts_clear s (rule_at at-start.args.book.now at-start.args.rule) (good_rule _ _ at-start.requires.1).each, λ c. refl),
+    let at-by = c.before.before.before.before.before in
+    let s = (steadily at-by).1 in (
+      c.steady_boundaries.ensures _ _ (subst (Shifts _ _) (sym c.steady_midnight.ensures) s),
+      (λ e. shifts_clear s (rule_at c.args.book.now c.args.rule) (good_rule _ _ c.requires.1).each, λ c. refl),
     )
 
 pub date_boundaries_spec : {M : Type 1} → statement M

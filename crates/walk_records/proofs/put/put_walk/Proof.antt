@@ -28,36 +28,28 @@ decreases-pieces book first ats offsets rules events hi out₀ at kept₀ edges�
 abbrev At : (tie.invariant-pieces → tie.decreases-pieces → Type 0) → Type 0
 At it = it invariant-pieces decreases-pieces
 
--- the entry, from a turn of the loop, and the piece at hand, from where it is told whether it joins
-abbrev entry : At tie.At-pieces → At tie.Start
-entry c = c.before.before.before.before.before.before.before.before.before.before.before
-
-abbrev piece : At tie.After-is_joinable-joining → At tie.In-Next-2
-piece c = c.before.before.before.before.before.before.before.before.before.before
+-- the piece at hand, from where it is told whether it joins
+abbrev piece : At tie.After-is_joinable-joining → At tie.In-Next
+piece c = c.before.before.before.before.before.before.before.before.before
 
 -- a piece comes
-comes_at : (c : At tie.In-Next-2)
-    → let at-pieces = c.before.before.before.before in
-    let args = (entry at-pieces).args in
+comes_at : (c : At tie.In-Next)
+    → let args = c.args in
     Coming args.book.now args.offset0 args.ats.now args.offsets.now args.rules.now args.events.now args.hi.0
-    at-pieces.pieces.w c.q-1.given.0.0 at-pieces.pieces.edges-1
+    c.pieces.w c.in-Next.q c.pieces.edges
 comes_at c =
-    let at-pieces = c.before.before.before.before in
-    come _ _ _ (entry at-pieces).requires.0.zone _ _ at-pieces.pieces.invariant.0 c.before.before.next_piece.ensures _ c.q-1.given.1
+    come _ _ _ c.requires.0.zone _ _ c.pieces.invariant.0 c.next_piece.ensures _ c.in-Next.is
 
 -- and whether it joins is told
 taken_at : (c : At tie.After-is_joinable-joining)
-    → let at-pieces = (piece c).before.before.before.before in
-    let args = (entry at-pieces).args in
-    let now = at-pieces.pieces in
-    Taken args.book.now args.offset0 args.ats.now args.offsets.now args.rules.now args.events.now args.hi.0 args.out-1.now
+    → let args = c.args in
+    let now = c.pieces in
+    Taken args.book.now args.offset0 args.ats.now args.offsets.now args.rules.now args.events.now args.hi.0 args.out.now
     args.at (bytes_left args.book.now args.offset0 args.ats.now args.offsets.now args.rules.now args.events.now args.hi.0
-    at-pieces.before.before.begin-opening.result) now.out-1 now.stand now.head now.place (piece c).q-1.given.0.0 c.is_joinable-joining.result
+    c.begin-opening.result) now.out now.stand now.head now.place c.in-Next.q c.is_joinable-joining.result
 taken_at c =
-    let at-last-of = c.before.before.before in
-    let at-pieces = (piece c).before.before.before.before in
-    taken _ _ _ _ _ _ _ (entry at-pieces).requires.0 (comes_at (piece c)) c.before.before.point_phase.ensures.0 c.before.rule_evidence.ensures at-pieces.pieces.inv.1
-    at-last-of.last_of.ensures c.is_joinable-joining.ensures
+    taken _ _ _ _ _ _ _ c.requires.0 (comes_at (piece c)) c.point_phase.ensures.0 c.rule_evidence.ensures c.pieces.invariant.1
+    c.last_of.ensures c.is_joinable-joining.ensures
 
 begin_requires : At tie.Need-begin-opening-requires
 begin_requires c κs =
@@ -76,50 +68,42 @@ next_piece_requires c κs = stands_held c.before.pieces.invariant.0
 
 point_phase_requires : At tie.Need-point_phase-requires
 point_phase_requires c κs =
-    let fits = (comes_at c.before.before.before.before.before.before.before).fits in
+    let fits = (comes_at c.before.before.before.before.before.before).fits in
     (fits.listed, fits.point)
 
 rule_evidence_requires : At tie.Need-rule_evidence-requires
-rule_evidence_requires c κs = (comes_at c.before.before.before.before.before.before.before.before).fits.listed
+rule_evidence_requires c κs = (comes_at c.before.before.before.before.before.before.before).fits.listed
 
 events_place_requires : At tie.Need-events_place-front-requires
-events_place_requires c κs = omega (arith, (taken_at c).goes.begin-opening, (entry (piece c).before.before.before.before).good)
+events_place_requires c κs = omega (arith, (taken_at c).goes.begin, c.well_formed)
 
 put_events_requires : At tie.Need-put_events-trail-requires
 put_events_requires c κs =
-    let at-events-place = c.before in
-    let at-is-joinable = at-events-place.before in
-    let ready = (entry (piece at-is-joinable).before.before.before.before).requires.0 in
-    (ready.zone, ready.events_listed, ready.few, its_room (taken_at at-is-joinable) at-events-place.events_place-front.ensures)
+    let ready = c.requires.0 in
+    (ready.zone, ready.events_listed, ready.few, its_room (taken_at c.before.before) c.events_place-front.ensures)
 
 cast_head_of : At tie.Need-overflow_cast-trail
 cast_head_of c =
-    let at-put-events = c.before.before.before in
-    let at-q = piece at-put-events.before.before.before in
-    let at-start = entry at-q.before.before.before.before in
-    omega (arith, at-put-events.put_events-trail.ensures.count, found_few _ _ _ _ _ _ at-start.args.hi.0 at-start.requires.0 _ (comes_at at-q).fits)
+    let at-q = piece c.before.before.before.before.before.before in
+    omega (arith, c.put_events-trail.ensures.count, found_few _ _ _ _ _ _ c.args.hi.0 c.requires.0 _ (comes_at at-q).fits)
 
 head_of_requires : At tie.Need-head_of-new-requires
 head_of_requires c κs =
     let at-q = piece c.before.before.before.before.before.before in
-    ((entry at-q.before.before.before.before).requires.0.zone, (comes_at at-q).fits)
+    (c.requires.0.zone, (comes_at at-q).fits)
 
 told_requires : At tie.Need-told-head-requires
 told_requires c κs =
-    let at-head-of = c.before in
-    let at-put-events = at-head-of.before.before.before.before in
+    let at-put-events = c.before.before.before.before.before in
     its_count (taken_at at-put-events.before.before.before)
-    (ap (λ (h : Phase). h.events) at-head-of.head_of-new.ensures ∙ at-put-events.put_events-trail.ensures.count)
+    (ap (λ (h : Phase). h.events) c.head_of-new.ensures ∙ c.put_events-trail.ensures.count)
 
 put_record_requires : At tie.Need-put_record-requires
 put_record_requires c κs =
-    let at_told = c.before in
-    let at-record-place = at_told.before in
-    let at-head-of = at-record-place.before in
-    let at-put-events = at-head-of.before.before.before.before in
+    let at-put-events = c.before.before.before.before.before.before.before in
     let at-events-place = at-put-events.before.before in
-    its_record (taken_at at-events-place.before) at-events-place.events_place-front.ensures at-put-events.put_events-trail.ensures
-    at-head-of.head_of-new.ensures at-record-place.record_place-stand.ensures at_told.told-head.ensures
+    its_record (taken_at at-events-place.before) c.events_place-front.ensures c.put_events-trail.ensures
+    c.head_of-new.ensures c.record_place-stand.ensures c.told-head.ensures
 
 after_piece_requires : At tie.Need-after_piece-w-requires
 after_piece_requires c κs =
@@ -133,66 +117,52 @@ pieces_less c =
 pieces_again : At tie.Need-pieces-preserved-in-Next
 pieces_again c =
     let at-put-record = c.before.before.before in
-    let at_told = at-put-record.before.before in
-    let at-record-place = at_told.before in
-    let at-head-of = at-record-place.before in
-    let at-put-events = at-head-of.before.before.before.before in
+    let at-put-events = at-put-record.before.before.before.before.before.before.before.before in
     let at-events-place = at-put-events.before.before in
     let at-is-joinable = at-events-place.before in
-    let at-pieces = (piece at-is-joinable).before.before.before.before in
-    let args = (entry at-pieces).args in (
+    let args = c.args in (
       stands_on c.after_piece-w.ensures (comes_at (piece at-is-joinable)).stands,
       written_on args.book.now args.offset0 args.ats.now args.offsets.now args.rules.now args.events.now args.hi.0
-          (written (taken_at at-is-joinable) at-events-place.events_place-front.ensures at-put-events.put_events-trail.ensures at-head-of.head_of-new.ensures
-          at-record-place.record_place-stand.ensures at_told.told-head.ensures at-put-record.put_record.ensures) c.after_piece-w.ensures,
-      at-pieces.pieces.inv.2,
+          (written (taken_at at-is-joinable) c.events_place-front.ensures c.put_events-trail.ensures c.head_of-new.ensures
+          c.record_place-stand.ensures c.told-head.ensures c.put_record.ensures) c.after_piece-w.ensures,
+      c.pieces.invariant.2,
     )
 
 next_turn_requires : At tie.Need-next_turn-requires
 next_turn_requires c κs =
-    let at-enum-told = c.before.before in
-    let at-next-piece = at-enum-told.before.before in
-    let at-pieces = at-next-piece.before.before in
-    let ready = (entry at-pieces).requires.0 in (
+    let ready = c.requires.0 in (
       ready.zone,
       ready.rules_listed,
-      at-pieces.pieces.invariant.2,
-      shown _ _ _ ready.zone _ _ at-pieces.pieces.invariant.0 at-next-piece.next_piece.ensures at-enum-told.enum_told-1.given.1,
+      c.pieces.invariant.2,
+      shown _ _ _ ready.zone _ _ c.pieces.invariant.0 c.next_piece.ensures c.in-Done.is,
     )
 
 pieces_less_2 : At tie.Need-pieces-smaller
 pieces_less_2 c =
-    let at_next = c.before in
-    let at-next-turn = at_next.before.before in
-    let args = (entry at-next-turn.before.before.before.before.before.before.before).args in
+    let args = c.args in
     turn_fewer (turning args.book.now args.offset0 args.ats.now args.offsets.now args.rules.now args.events.now args.hi.0 _ _ _
-    at-next-turn.next_turn.ensures.0 at_next.next-1.given.1)
+    c.next_turn.ensures.0 c.in-On.is)
 
 pieces_again_2 : At tie.Need-pieces-preserved
 pieces_again_2 c =
-    let at_next = c.before in
-    let at-next-turn = at_next.before.before in
-    let at-pieces = at-next-turn.before.before.before.before.before.before.before in
-    let args = (entry at-pieces).args in
+    let args = c.args in
     let on = turning args.book.now args.offset0 args.ats.now args.offsets.now args.rules.now args.events.now args.hi.0 _ _ _
-    at-next-turn.next_turn.ensures.0 at_next.next-1.given.1 in (
+    c.next_turn.ensures.0 c.in-On.is in (
       on.stands,
       turn_written args.book.now args.offset0 args.ats.now args.offsets.now args.rules.now args.events.now args.hi.0
-          at-pieces.pieces.invariant.1 on,
-      at-next-turn.next_turn.ensures.1,
+          c.pieces.invariant.1 on,
+      c.next_turn.ensures.1,
     )
 
 returns : At tie.Need-returns
 returns c =
-    let at-next-turn = c.before.before in
-    let at-pieces = at-next-turn.before.before.before.before.before.before.before in
-    let args = (entry at-pieces).args in
-    walk_put _ _ _ _ _ _ _ (entry at-pieces).requires.0 at-pieces.before.before.begin-opening.ensures.0 at-pieces.pieces.invariant.1
+    let args = c.args in
+    walk_put _ _ _ _ _ _ _ c.requires.0 c.begin-opening.ensures.0 c.pieces.invariant.1
     (done_left args.book.now args.offset0 args.ats.now args.offsets.now args.rules.now args.events.now args.hi.0 _ _ _
-    at-next-turn.next_turn.ensures.0 c.enum_told-in-Done-next_turn-1.given.1)
+    c.next_turn.ensures.0 c.in-Done-next_turn.is)
 
 same_length : At tie.Need-shape_of-out
-same_length c = (returns c).kept-1
+same_length c = (returns c).kept
 
 pub put_walk_spec : {M : Type 1} → statement M
 put_walk_spec =

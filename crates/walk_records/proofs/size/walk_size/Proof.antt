@@ -32,23 +32,17 @@ decreases-pieces book first ats offsets rules events hi kept₀ edges₀ w₀ la
 abbrev At : (tie.invariant-pieces → tie.decreases-pieces → Type 0) → Type 0
 At it = it invariant-pieces decreases-pieces
 
--- the entry, from a turn of the loop
-abbrev entry : At tie.At-pieces → At tie.Start
-entry c = c.before.before.before.before.before.before.before.before.before
-
 -- the piece at hand, from where its phase is read
-abbrev piece : At tie.After-point_phase-phase → At tie.In-Next-2
-piece c = c.before.before.before.before.before.before.before
+abbrev piece : At tie.After-point_phase-phase → At tie.In-Next
+piece c = c.before.before.before.before.before.before
 
 -- it comes
-comes_at : (c : At tie.In-Next-2)
-    → let at-pieces = c.before.before.before.before in
-    let args = (entry at-pieces).args in
+comes_at : (c : At tie.In-Next)
+    → let args = c.args in
     Coming args.book.now args.offset0 args.ats.now args.offsets.now args.rules.now args.events.now args.hi.0
-    at-pieces.pieces.w c.q-1.given.0.0 at-pieces.pieces.edges-1
+    c.pieces.w c.in-Next.q c.pieces.edges
 comes_at c =
-    let at-pieces = c.before.before.before.before in
-    come _ _ _ (entry at-pieces).requires.zone _ _ at-pieces.pieces.invariant.0 c.before.before.next_piece.ensures _ c.q-1.given.1
+    come _ _ _ c.requires.zone _ _ c.pieces.invariant.0 c.next_piece.ensures _ c.in-Next.is
 
 begin_requires : At tie.Need-begin-opening-requires
 begin_requires c κs =
@@ -66,7 +60,7 @@ next_piece_requires c κs = stands_held c.before.pieces.invariant.0
 
 point_phase_requires : At tie.Need-point_phase-phase-requires
 point_phase_requires c κs =
-    let fits = (comes_at c.before.before.before.before.before.before).fits in
+    let fits = (comes_at c.before.before.before.before.before).fits in
     (fits.listed, fits.point)
 
 rule_evidence_requires : At tie.Need-rule_evidence-evidence-requires
@@ -74,24 +68,17 @@ rule_evidence_requires c κs = (comes_at (piece c)).fits.listed
 
 count_events_requires : At tie.Need-count_events-count-requires
 count_events_requires c κs =
-    let ready = (entry (piece c.before.before.before).before.before.before.before).requires in
-    (ready.zone, ready.events_listed, ready.few)
+    (c.requires.zone, c.requires.events_listed, c.requires.few)
 
 -- what is counted, and what a piece adds, is small
 add_size : At tie.Need-overflow_add-size
-add_size c =
-    let at-record-size = c.before in
-    let at-pieces = (piece at-record-size.before.before.before).before.before.before.before in
-    omega (arith, at-pieces.pieces.inv.1.few, at-record-size.record_size-record.ensures.1)
+add_size c = omega (arith, c.pieces.invariant.1.few, c.record_size-record.ensures.1)
 
 mul_size : At tie.Need-overflow_mul-size
 mul_size c = omega (arith, c.count_events-count.ensures.1)
 
 add_size_2 : At tie.Need-overflow_add-size-in-Next
-add_size_2 c =
-    let at-record-size = c.before in
-    let at-pieces = (piece at-record-size.before.before.before).before.before.before.before in
-    omega (arith, c.count_events-count.ensures.1, at-pieces.pieces.inv.1.few, at-record-size.record_size-record.ensures.1)
+add_size_2 c = omega (arith, c.count_events-count.ensures.1, c.pieces.invariant.1.few, c.record_size-record.ensures.1)
 
 after_piece_requires : At tie.Need-after_piece-w-requires
 after_piece_requires c κs =
@@ -104,65 +91,49 @@ pieces_less c =
 
 pieces_again : At tie.Need-pieces-preserved-in-Next
 pieces_again c =
-    let at-count-events = c.before in
-    let at-record-size = at-count-events.before in
-    let at-is-joinable = at-record-size.before in
-    let at-rule-evidence = at-is-joinable.before in
-    let at-point-phase = at-rule-evidence.before in
-    let at-q = piece at-point-phase in
-    let at-pieces = at-q.before.before.before.before in
-    let args = (entry at-pieces).args in (
+    let at-q = piece c.before.before.before.before.before in
+    let args = c.args in (
       stands_on c.after_piece-w.ensures (comes_at at-q).stands,
       sized_on args.book.now args.offset0 args.ats.now args.offsets.now args.rules.now args.events.now args.hi.0
-          (sized _ _ _ _ _ _ _ (entry at-pieces).requires (comes_at at-q) at-point-phase.point_phase-phase.ensures.0
-          at-rule-evidence.rule_evidence-evidence.ensures at-pieces.pieces.inv.1 at-is-joinable.is_joinable.ensures at-record-size.record_size-record.ensures.0
-          at-count-events.count_events-count.ensures.0 refl) c.after_piece-w.ensures,
-      at-pieces.pieces.inv.2,
+          (sized _ _ _ _ _ _ _ c.requires (comes_at at-q) c.point_phase-phase.ensures.0
+          c.rule_evidence-evidence.ensures c.pieces.invariant.1 c.is_joinable.ensures c.record_size-record.ensures.0
+          c.count_events-count.ensures.0 refl) c.after_piece-w.ensures,
+      c.pieces.invariant.2,
     )
 
 next_turn_requires : At tie.Need-next_turn-requires
 next_turn_requires c κs =
-    let at-enum-told = c.before.before in
-    let at-next-piece = at-enum-told.before.before in
-    let at-pieces = at-next-piece.before.before in
-    let ready = (entry at-pieces).requires in (
+    let ready = c.requires in (
       ready.zone,
       ready.rules_listed,
-      at-pieces.pieces.invariant.2,
-      shown _ _ _ ready.zone _ _ at-pieces.pieces.invariant.0 at-next-piece.next_piece.ensures at-enum-told.enum_told-1.given.1,
+      c.pieces.invariant.2,
+      shown _ _ _ ready.zone _ _ c.pieces.invariant.0 c.next_piece.ensures c.in-Done.is,
     )
 
 pieces_less_2 : At tie.Need-pieces-smaller
 pieces_less_2 c =
-    let at_next = c.before in
-    let at-next-turn = at_next.before.before in
-    let args = (entry at-next-turn.before.before.before.before.before.before.before).args in
+    let args = c.args in
     turn_fewer (turning args.book.now args.offset0 args.ats.now args.offsets.now args.rules.now args.events.now args.hi.0 _ _ _
-    at-next-turn.next_turn.ensures.0 at_next.next-1.given.1)
+    c.next_turn.ensures.0 c.in-On.is)
 
 pieces_again_2 : At tie.Need-pieces-preserved
 pieces_again_2 c =
-    let at_next = c.before in
-    let at-next-turn = at_next.before.before in
-    let at-pieces = at-next-turn.before.before.before.before.before.before.before in
-    let args = (entry at-pieces).args in
+    let args = c.args in
     let on = turning args.book.now args.offset0 args.ats.now args.offsets.now args.rules.now args.events.now args.hi.0 _ _ _
-    at-next-turn.next_turn.ensures.0 at_next.next-1.given.1 in (
+    c.next_turn.ensures.0 c.in-On.is in (
       on.stands,
       turn_sized args.book.now args.offset0 args.ats.now args.offsets.now args.rules.now args.events.now args.hi.0
-          at-pieces.pieces.invariant.1 on,
-      at-next-turn.next_turn.ensures.1,
+          c.pieces.invariant.1 on,
+      c.next_turn.ensures.1,
     )
 
 returns : At tie.Need-returns
 returns c =
-    let at-next-turn = c.before.before in
-    let at-pieces = at-next-turn.before.before.before.before.before.before.before in
-    let begun = begun_spans _ _ _ _ _ _ _ (entry at-pieces).requires at-pieces.before.begin-opening.ensures.0 in
-    let args = (entry at-pieces).args in
+    let begun = begun_spans _ _ _ _ _ _ _ c.requires c.begin-opening.ensures.0 in
+    let args = c.args in
     let done = done_left args.book.now args.offset0 args.ats.now args.offsets.now args.rules.now args.events.now args.hi.0 _ _ _
-    at-next-turn.next_turn.ensures.0 c.enum_told-in-Done-next_turn-1.given.1 in
-    let all = size_end at-pieces.pieces.invariant.1 done in
+    c.next_turn.ensures.0 c.in-Done-next_turn.is in
+    let all = size_end c.pieces.invariant.1 done in
     (all.0 ∙ ap (λ (l : List (Span Shown)). length (encode_all (phase_forms l))) (sym begun), all.1)
 
 pub walk_size_spec : {M : Type 1} → statement M
