@@ -1,6 +1,7 @@
 /* The boundary: what the dashboard's Rust server links against.
  *
- * The crate `market_time` exports these, and `rt staticlib market_time` writes target/staticlib/libmarket_time.a (x86-64).
+ * The crate `market_time_c` exports these, and `tools/native-staticlib market_time target/staticlib/libmarket_time.a` writes
+ * the archive (x86-64).
  * A slice passes as a pointer and then a length; an empty slice may have any pointer, null too. `out` overlaps no other
  * buffer. size_t has 64 bits.
  * No entry point has a precondition: every byte, length and number is answered or refused.
