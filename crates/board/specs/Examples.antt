@@ -7,7 +7,6 @@ use Rattle.zone.specs.Units.{second_ns}
 use Rattle.zone.specs.Answers.{Values}
 use Rattle.spans.specs.Spans.{look}
 use Rattle.query.specs.Judging.{window_refusal}
-use Rattle.answer.specs.Forms
 use Rattle.answer.specs.Forms.{Form, phase, unknown, mark, encode, encode_all}
 use Rattle.rows.specs.Rows.{good_phase, good_gap, good_event, good_events, good_from, good_row, good_rows, events_from, segments_from, mark_from, rows_from}
 use Rattle.classes.specs.Classes.{class_reply, count_reply, number_of}

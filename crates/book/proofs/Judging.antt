@@ -2,7 +2,7 @@
 use mathlib.Core.Path.{◌≡◌, refl, sym, ap, ap₂, ◌∙◌}
 use mathlib.Core.Bool.{Bool, true, false, not, ◌&&◌, ◌||◌}
 use mathlib.Core.List.{List}
-use Prim.Native.Nat.{ℕ, zero, suc, ◌+◌, ◌^◌, ◌≤◌}
+use Prim.Native.Nat.{ℕ, zero, suc, ◌+◌, ◌≤◌}
 use native.Mathlib.Omega.{arith}
 use borrow.Author.Tests.{eqb-true}
 use lib.ListN.{length}
@@ -13,7 +13,6 @@ use Rattle.wire.specs.Signs.{half, meant, turned}
 use Rattle.wire.proofs.Signs.{order_lt, order_le}
 use Rattle.zone.specs.Units.{day_ns}
 use Rattle.records.specs.Layout.{number, integer, tag, nanoseconds, count, time, phase, step, day_first, day_last, coverage_start, coverage_end, coverage_kind, rule_kind, event_kind, is_dated, rule_code, is_rule}
-use Rattle.records.specs.Records
 use Rattle.records.specs.Records.{rule, rule_at, record_at, published_at, points_at, times_at}
 use Rattle.records.specs.Book.{kind_at, bad_uncertainty, late, late_start, reversed, covers_nothing, last_phase, last_published, most_width}
 use Rattle.records.specs.Frame.{Framed, items_at}

@@ -16,11 +16,9 @@ use Rattle.records.specs.Book.{refusal, records}
 use Rattle.venue.specs.Opening.{coverage_of, opened, number_opened}
 use Rattle.venue.specs.declared.opened.Header.{Header}
 use Rattle.venue.specs.declared.opened.Opened.{Opened}
-use Rattle.venue.specs.declared.opened.Opened.TheVariants as Opened
 use Rattle.venue.proofs.Known.{opened_refused, opened_empty, opened_venue, Known}
 use Rattle.query.specs.Judging.{window_refusal, window_of}
 use Rattle.book_query.specs.declared.Judged.{Judged}
-use Rattle.book_query.specs.declared.Judged.TheVariants as Judged
 use Rattle.query.specs.declared.Window.{Window}
 use Rattle.query.specs.declared.Window.TheVariants.{Refused, Between}
 use Rattle.query.proofs.Windows.{Windowed, window_between, window_refused}

@@ -3,12 +3,10 @@ use Rattle.std.specs.Prelude.{ℕ, List, ℤ}
 use Rattle.records.specs.Limits.{base}
 use Rattle.records.specs.Book.{or_then, refusal}
 use Rattle.venue.specs.declared.opened.Opened.{Opened}
-use Rattle.venue.specs.declared.opened.Opened.TheVariants as Opened
 use Rattle.query.specs.Judging.{window_refusal}
 use Rattle.query.specs.declared.Window.{Window}
 use Rattle.query.specs.declared.Window.TheVariants.{Refused, Between}
 use Rattle.book_query.specs.declared.Judged.{Judged}
-use Rattle.book_query.specs.declared.Judged.TheVariants as Judged
 
 -- the book's number, else the window's: 10, 11, 12
 unfoldable pub window_number : List ℕ → ℤ → ℤ → ℕ

@@ -18,7 +18,7 @@ use Rattle.records.proofs.Cascade.{neither}
 use Rattle.market_time.specs.Counted.{said_at, counted, counted_totals, counted_row, counted_forms}
 use Rattle.market_time.proofs.Plain.{window_passes}
 use Rattle.spans.specs.Spans.{Span}
-use Rattle.spans.specs.Timeline.{Part, inside}
+use Rattle.spans.specs.Timeline.{Part}
 use Rattle.spans.specs.Totals.{is_phase, shows, total}
 use Rattle.spans.proofs.Totals.{same_count}
 use Rattle.day.specs.Days.{Values, values_of, point_of}

@@ -1,5 +1,5 @@
 -- Document 01's Book A, and small books that are refused, computed. Assumes nothing.
-use Rattle.std.specs.Prelude.{ℕ, ◌+◌, ◌*◌, ◌≡◌, refl, List, [], ◌∷◌, ◌++◌, map, ℤ, pos, negsuc, length, take}
+use Rattle.std.specs.Prelude.{ℕ, ◌*◌, ◌≡◌, refl, List, [], ◌∷◌, ◌++◌, map, ℤ, pos, negsuc, length, take}
 use Rattle.wire.specs.Fields.{field, bytes, laid}
 use Rattle.wire.specs.Signs.{meant}
 use Rattle.zone.specs.Units.{second_ns}

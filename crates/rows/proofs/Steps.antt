@@ -14,7 +14,6 @@ use Rattle.rows.specs.Rows.{from_at, enough, good_phase, good_gap, good_segment,
 use Rattle.rows.specs.Telling.{segment_of, good_on, stands_at}
 use Rattle.rows.specs.declared.RowSegment.{RowSegment}
 use Rattle.rows.specs.declared.Stands.{Stands}
-use Rattle.rows.specs.declared.Stands.TheVariants as Stands
 use Rattle.rows.proofs.Turns.{mark_holds, event_holds, at_end, phase_early, gap_early, other, mark_on}
 use Rattle.rows.proofs.Places.{holds, good_look, good_left}
 

@@ -15,12 +15,11 @@ use Rattle.wire.specs.Signs.{placed, turned}
 use Rattle.wire.proofs.Signs.{placed_below, turned_placed, turned_turned}
 use Rattle.records.specs.Layout.{Place, number, size, kind}
 use Rattle.records.proofs.Laid.{Says}
-use Rattle.spans.specs.Spans
 use Rattle.answer.specs.Forms
 use Rattle.answer.specs.Forms.{Form, phase, unknown, event, point, mark, day, tally, length_of, all_fields, cover_fields, encode, encode_all, phase_kind, phase_length, gap_kind, gap_length, event_kind, event_length, phase_size, gap_size, event_size}
 use Rattle.answer.specs.Fitting.{Fitting}
 use Rattle.answer.proofs.Readback.{encode_length, reads_back, fitting_narrow, fitting_sized}
-use Rattle.rows.specs.Rows.{Event, placed_at, from_at, to_at, count_at, framed, enough, event_of, events_from, segments_at, segments}
+use Rattle.rows.specs.Rows.{placed_at, from_at, to_at, count_at, framed, enough, event_of, events_from, segments_at, segments}
 use Rattle.rows.specs.Rows.{good_phase, good_gap, good_event, good_events, good_from, good_row, last_tag}
 use Rattle.rows.specs.Written.{instant, GoodPhase, GoodGap, GoodEvent, Owing, RowFrom, event_said, events_of, seen_of}
 use Rattle.rows.proofs.Turns.{phase_holds, gap_holds, at_end, phase_on, gap_on}

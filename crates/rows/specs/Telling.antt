@@ -10,7 +10,6 @@ use Rattle.rows.specs.declared.Shows.{Shows}
 use Rattle.rows.specs.declared.Shows.TheVariants.{Phase, Unknown}
 use Rattle.rows.specs.declared.RowSegment.{RowSegment}
 use Rattle.rows.specs.declared.Stands.{Stands}
-use Rattle.rows.specs.declared.Stands.TheVariants as Stands
 
 -- ---- a segment
 

@@ -3,7 +3,7 @@ use Rattle.std.specs.Prelude.{ℕ, ◌≤◌, ◌≡◌, List, length}
 use Rattle.zone.specs.Answers.{Valid}
 use Rattle.records.specs.Limits.{base}
 use Rattle.records.specs.Book.{records}
-use Rattle.venue.specs.Opening.{ats_of, offsets_of, places, opened, stored, rule_places, event_places}
+use Rattle.venue.specs.Opening.{ats_of, offsets_of, opened, stored, rule_places, event_places}
 use Rattle.venue.specs.Reading.{ListedRules, ListedEvents}
 use Rattle.venue.specs.declared.opened.Opened.{Opened}
 

@@ -6,7 +6,6 @@ use lib.ListN.{length}
 use mathlib.Core.Bool.{true}
 use mathlib.Core.Path.{◌≡◌, sym, ◌∙◌}
 use native.Mathlib.Omega.{arith}
-use borrow.Author.Tests.{not-true, not-false}
 use borrow.Author.Rules.{rules}
 use Rattle.book.proofs.judge.bad_item.Statement.{statement}
 use Rattle.book.proofs.judge.bad_item.Tie as tie

@@ -5,7 +5,6 @@ use lib.ListN.{length}
 use mathlib.Core.Bool.{true}
 use mathlib.Core.Path.{◌≡◌, sym, ◌∙◌}
 use native.Mathlib.Omega.{arith}
-use borrow.Author.Tests.{not-true, not-false}
 use borrow.Author.Rules.{rules}
 use Rattle.book.proofs.judge.is_reversed.Statement.{statement}
 use Rattle.book.proofs.judge.is_reversed.Tie as tie

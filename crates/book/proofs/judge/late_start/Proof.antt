@@ -2,7 +2,6 @@ use Rattle.book.proofs.Judging.{never_late, late_none, late_some, time_room}
 use Rattle.records.specs.Layout.{is_rule}
 use mathlib.Core.Bool.{true}
 use mathlib.Core.Path.{◌≡◌, sym, ◌∙◌}
-use borrow.Author.Tests.{not-true, not-false}
 use borrow.Author.Rules.{rules}
 use Rattle.book.proofs.judge.late_start.Statement.{statement}
 use Rattle.book.proofs.judge.late_start.Tie as tie

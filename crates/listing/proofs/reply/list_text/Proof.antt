@@ -5,7 +5,6 @@ use mathlib.Core.Bool.{true}
 use mathlib.Core.Path.{◌≡◌, sym, ◌∙◌}
 use Rattle.listing.proofs.Asking.{too_long, no_query, is_query, told, edge, tail_book, same_window}
 use Rattle.listing.specs.Listing.{text_bytes, query_kind, query_length, query_size, book, start, end}
-use borrow.Author.Tests.{not-true, not-false}
 use Rattle.listing.proofs.Bounds.{head_fits}
 use Rattle.rows.proofs.Turns.{framed_holds}
 use native.Mathlib.Omega.{arith}

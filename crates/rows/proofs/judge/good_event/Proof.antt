@@ -1,7 +1,6 @@
 use mathlib.Core.Path.{◌≡◌, sym, ◌∙◌}
 use mathlib.Core.Bool.{true}
 use native.Mathlib.Omega.{arith}
-use borrow.Author.Tests.{not-true, not-false}
 use Rattle.answer.specs.Forms.{event_kind, event_length}
 use Rattle.rows.specs.Rows.{framed}
 use Rattle.rows.proofs.Turns.{framed_holds}

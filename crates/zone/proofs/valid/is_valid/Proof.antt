@@ -4,7 +4,7 @@ use Rattle.zone.specs.Units.{day_ns}
 use Rattle.calendar.specs.Answers.{first_day, last_day}
 use Rattle.wire.proofs.Signs.{and_no}
 use Rattle.std.proofs.Common.{◌≡◌, ◌+◌, ◌-◌, ◌*◌, ◌≤◌, length, get_or, drop, sym, refl, ◌∙◌, arith, le-leb}
-use borrow.Author.Tests.{lt-leb, not-true, not-false}
+use borrow.Author.Tests.{lt-leb}
 use Rattle.zone.proofs.valid.is_valid.Statement.{statement}
 use Rattle.zone.proofs.valid.is_valid.Tie as tie
 
