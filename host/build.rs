@@ -48,12 +48,8 @@ fn is_for(archive: &[u8], target: &str) -> bool {
 
 fn fail(why: &str) -> ! {
     eprintln!("{why}");
-    eprintln!("In the repository's root, make the library in one of two ways:");
-    eprintln!("  for x86-64:        rt staticlib market_time");
-    eprintln!("                     (this build then finds target/staticlib/{NAME} by itself)");
-    eprintln!(
-        "  for this machine:  mkdir -p build/lib && tools/native-staticlib market_time build/lib/{NAME}"
-    );
-    eprintln!("                     and set MARKET_TIME_LIB to the full path of build/lib");
+    eprintln!("In the repository's root, make the library, for x86-64:");
+    eprintln!("  tools/native-staticlib market_time target/staticlib/{NAME}");
+    eprintln!("This build then finds it by itself. Elsewhere: set MARKET_TIME_LIB to the full path of its folder.");
     exit(1);
 }
