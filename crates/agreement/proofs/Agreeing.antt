@@ -1,6 +1,6 @@
 -- The timeline of a plain window and the point answers agree at each of its instants. Assumes nothing.
 use mathlib.Core.Path.{◌≡◌, refl, sym, ap, subst, ◌∙◌}
-use mathlib.Core.Option.{Option, none, some}
+use Rattle.std.specs.Prelude.{Option, None, Some}
 use Prim.Native.Nat.{ℕ, suc, ◌+◌, ◌-◌, ◌≤◌, ◌<◌, min, max}
 use native.Mathlib.Decide.{dec_lt}
 use native.Mathlib.Omega.{arith}
@@ -19,7 +19,7 @@ use Rattle.agreement.proofs.Dates.{fits}
 
 -- the three cases
 module _ {A : Type 0} (v : Venue A) (c : Part) (t : ℕ) (l p : Option Mark) where
-  agrees_out : (Covered c t → ⊥) → l ≡ some unknown → p ≡ none → Agrees v c t l p
+  agrees_out : (Covered c t → ⊥) → l ≡ Some unknown → p ≡ None → Agrees v c t l p
   agrees_out n a b =
       record {
         known = λ q e. (λ h. cc, λ h. cc);
@@ -28,7 +28,7 @@ module _ {A : Type 0} (v : Venue A) (c : Part) (t : ℕ) (l p : Option Mark) whe
         nothing = (λ h. absurd (let z : ◌≡◌ {A = ℕ} 0 1 = cc in omega arith), λ h. absurd (n h.0));
       }
 
-  agrees_hole : Covered c t → v.governing (v.reads t) ≡ none → l ≡ none → p ≡ none → Agrees v c t l p
+  agrees_hole : Covered c t → v.governing (v.reads t) ≡ None → l ≡ None → p ≡ None → Agrees v c t l p
   agrees_hole n g a b =
       record {
         known = λ q e. (λ h. cc, λ h. cc);
@@ -37,7 +37,7 @@ module _ {A : Type 0} (v : Venue A) (c : Part) (t : ℕ) (l p : Option Mark) whe
         nothing = (λ h. (n, g), λ h. a);
       }
 
-  agrees_known : Covered c t → (r : Rule) → v.governing (v.reads t) ≡ some r → (q e : ℕ) → l ≡ some (phase q e) → p ≡ some (phase q e) → Agrees v c t l p
+  agrees_known : Covered c t → (r : Rule) → v.governing (v.reads t) ≡ Some r → (q e : ℕ) → l ≡ Some (phase q e) → p ≡ Some (phase q e) → Agrees v c t l p
   agrees_known n r g q e a b =
       record {
         known = λ q' e'. (λ h. cc, λ h. cc);
@@ -92,10 +92,10 @@ module _ {A : Type 0} (B : Body A) (v : Venue A) (gap : A) (c w : Part) (ok : Ac
       point = whole_point B.mark
 
       on_date_law : (o : Option Rule) → v.governing d ≡ o → Agrees v c t (segment_at B (timeline B v gap c w) t) (point_at B.mark v c t)
-      on_date_law none g =
+      on_date_law None g =
           let e = ungoverned v d B.mark t g in
           agrees_hole v c t _ _ (a, b) (ap v.governing reading ∙ g) (shown ∙ e) (point ∙ e)
-      on_date_law (some r) g =
+      on_date_law (Some r) g =
           let k = governed v d B.mark t ok.shows r g (ok.starts d r g) begun going in
           agrees_known v c t _ _ (a, b) r (ap v.governing reading ∙ g) k.0 r.evidence (shown ∙ k.1) (point ∙ k.1)
 
@@ -106,10 +106,10 @@ module _ {A : Type 0} (B : Body A) (v : Venue A) (gap : A) (c w : Part) (ok : Ac
     where
       go : Dec (t < c.start) → Dec (t < c.end) → Agrees v c t (segment_at B (timeline B v gap c w) t) (point_at B.mark v c t)
       go (yes h) q =
-          agrees_out v c t _ _ (λ k. omega arith) (same t ∙ early v gap c w ok.covers opens B.mark t from to h ∙ ap some ok.lacks)
+          agrees_out v c t _ _ (λ k. omega arith) (same t ∙ early v gap c w ok.covers opens B.mark t from to h ∙ ap Some ok.lacks)
           (point_out v c B.mark t (simp (lt-leb c.start t h)))
       go (no h) (no i) =
-          agrees_out v c t _ _ (λ k. omega arith) (same t ∙ late v gap c w ok.covers opens B.mark t from to (omega arith) ∙ ap some ok.lacks)
+          agrees_out v c t _ _ (λ k. omega arith) (same t ∙ late v gap c w ok.covers opens B.mark t from to (omega arith) ∙ ap Some ok.lacks)
           (point_out v c B.mark t (simp (le-ltb t c.end (omega arith), and_no)))
       go (no h) (yes i) =
           let day = date_of v pw.count pw.first t (omega (arith, pw.opens)) (omega (arith, pw.closes)) in

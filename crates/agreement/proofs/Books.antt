@@ -4,7 +4,7 @@ use mathlib.Core.Path.{◌≡◌, refl, subst, ◌∙◌}
 use mathlib.Core.Logic.{◌↔◌}
 use mathlib.Core.Bool.{true}
 use mathlib.Core.List.{List, [], ◌∷◌}
-use mathlib.Core.Option.{Option, none, some}
+use Rattle.std.specs.Prelude.{Option, None, Some}
 use Prim.Native.Nat.{ℕ, ◌+◌, ◌-◌, ◌≤◌}
 use native.Mathlib.Omega.{arith}
 use lib.IntN.{ℤ}
@@ -51,7 +51,7 @@ from_midnight (p ∷ ps) h = h.0
 
 module _ (v : Values) where
   abbrev shows : Held → Option Shown
-  shows h = some (shown v.zone v.events h)
+  shows h = Some (shown v.zone v.events h)
 
   date_shown : (d : ℕ) → PlainDate (venue_of v) d → PlainDate (showing v.zone v.governing v.events) d
   date_shown d p = record { rising = p.rising; points = p.points; reading = p.reading }
@@ -75,14 +75,14 @@ module _ (v : Values) where
   point_shown t = point_map shows mark_of (venue_of v) v.coverage t ∙ go (point_of v t)
     where
       go : (o : Option Held) → on_shown (λ (h : Held). mark_of (shows h)) o ≡ point_mark o
-      go none = refl
-      go (some h) = refl
+      go None = refl
+      go (Some h) = refl
 
 module _ (s : List ℕ) (c : Coverage) (named : Names s c) where
   abbrev values : Values
   values = values_of (records s) c
 
-  pub accepted : Accepted segments (showing values.zone values.governing values.events) none values.coverage
+  pub accepted : Accepted segments (showing values.zone values.governing values.events) None values.coverage
   accepted =
       record {
         starts = λ d r g. from_midnight r.points (source_good s r (governing_listed s named.accepted d r g)).from_midnight;
@@ -132,7 +132,7 @@ module _ (s : List ℕ) (c : Coverage) (named : Names s c) where
           let run = subst (PlainFor (records s) (window start end)) named.coverage pw in
           agreed shown (point_mark (point_of values t))
           (subst (Agrees (showing values.zone values.governing values.events) values.coverage t shown) (point_shown values t)
-          (plain segments (showing values.zone values.governing values.events) none values.coverage (window start end) accepted w.order
+          (plain segments (showing values.zone values.governing values.events) None values.coverage (window start end) accepted w.order
           (window_shown values (window start end) run) t
           (instant_le start at w.start_number kept in_window.0)
           (instant_lt at end kept w.end_number in_window.1)))
@@ -141,8 +141,8 @@ module _ (s : List ℕ) (c : Coverage) (named : Names s c) where
 
 inside_plain : (rs : List Record) (a b c d : ℕ) → a ≤ c → d ≤ b → (o : Option Coverage)
     → PlainFor rs (record { start = a; end = b }) o → PlainFor rs (record { start = c; end = d }) o
-inside_plain rs a b c d h i none p = p
-inside_plain rs a b c d h i (some _) p =
+inside_plain rs a b c d h i None p = p
+inside_plain rs a b c d h i (Some _) p =
     record {
       first = p.first;
       count = p.count;

@@ -1,7 +1,7 @@
 -- A plain date fits the walk: its spans tile it if a rule governs it, and there are none if not. Assumes nothing.
 use mathlib.Core.Path.{◌≡◌, refl, sym, ap, subst, ◌∙◌}
 use mathlib.Core.List.{List, [], ◌∷◌}
-use mathlib.Core.Option.{Option, none, some}
+use Rattle.std.specs.Prelude.{Option, None, Some}
 use Prim.Native.Nat.{ℕ, suc, min, max}
 use native.Mathlib.Omega.{arith}
 use Rattle.records.specs.Records.{Point, Rule}
@@ -35,7 +35,7 @@ module _ {A : Type 0} (v : Venue A) (d : ℕ) where
       (cut_tile v r (raised v 0 d p.time) p.phase ps (subst (λ (x : ℕ). Rises (v.conv d) x (midnight v (suc d)) ps) (sym z) h.1))
 
   -- it fits the walk
-  pub fits : ((r : Rule) → v.governing d ≡ some r → Starts r.points) → PlainDate v d → DateFits v d
+  pub fits : ((r : Rule) → v.governing d ≡ Some r → Starts r.points) → PlainDate v d → DateFits v d
   unfolding spans clip reach
   fits starts plain =
       let both = go (v.governing d) refl plain.points in
@@ -44,8 +44,8 @@ module _ {A : Type 0} (v : Venue A) (d : ℕ) where
       go : (o : Option Rule) → v.governing d ≡ o → InOrder (v.conv d) (midnight v d) (midnight v (suc d)) o
           → Within (midnight v d) (midnight v (suc d)) (of_rule v d o)
           × ((lo hi : ℕ) → reach (min hi (midnight v (suc d))) (clip lo hi (of_rule v d o)) ≡ min hi (midnight v (suc d)))
-      go none g h = (plain.rising, λ lo hi. refl)
-      go (some r) g h =
+      go None g h = (plain.rising, λ lo hi. refl)
+      go (Some r) g h =
           let tile = points_tile r r.points (starts r g) h in (
             tile_within (midnight v d) (midnight v (suc d)) (of_points v r d r.points) tile,
             λ lo hi. tile_reach (midnight v d) (midnight v (suc d)) lo hi (of_points v r d r.points) tile,

@@ -2,7 +2,7 @@
 -- Assumes nothing.
 use mathlib.Core.Path.{◌≡◌, refl, subst}
 use mathlib.Core.Bool.{Bool, true, false, cond}
-use mathlib.Core.Option.{none, some}
+use Rattle.std.specs.Prelude.{None, Some}
 use Prim.Native.Nat.{ℕ, suc, ◌≤◌, ◌<◌}
 use native.Mathlib.Omega.{arith}
 use lib.Dec.{eqb}
@@ -17,7 +17,7 @@ use Rattle.agreement.proofs.Agreeing.{plain}
 date : (d : ℕ) → PlainDate v d
 date d = record { rising = omega arith; points = go (eqb d 13); reading = λ t a b. omega arith }
   where
-    go : (q : Bool) → InOrder (v.conv d) (midnight v d) (midnight v (suc d)) (cond q none (some r))
+    go : (q : Bool) → InOrder (v.conv d) (midnight v d) (midnight v (suc d)) (cond q None (Some r))
     go true = tt
     go false = omega arith
 
@@ -35,7 +35,7 @@ plain_window =
       after = date 16;
     }
 
-one_rule : (q : Rule) (b : Bool) → cond b none (some r) ≡ some q → r ≡ q
+one_rule : (q : Rule) (b : Bool) → cond b None (Some r) ≡ Some q → r ≡ q
 one_rule q true g = cc
 one_rule q false g = cc
 

@@ -2,7 +2,7 @@
 use mathlib.Core.Path.{◌≡◌, sym, ap, subst}
 use mathlib.Core.Bool.{true}
 use mathlib.Core.List.{List, [], map}
-use mathlib.Core.Option.{Option, some}
+use Rattle.std.specs.Prelude.{Option, Some}
 use Prim.Native.Nat.{ℕ, suc, ◌+◌, ◌-◌, ◌*◌, ◌≤◌, ◌<◌}
 use native.Mathlib.Omega.{arith}
 use borrow.Author.Tests.{leb-true}
@@ -30,7 +30,7 @@ use Rattle.plain.specs.Books.{window, PlainFor, Plain}
 use Rattle.plain.proofs.Steady.{steady_date, begins_at, ends_at}
 use Rattle.agreement.specs.Books.{Names}
 
-module _ (first : ℕ) (ats os : List ℕ) (ok : Valid first ats os) (g : ℕ → Option Rule) (good : (d : ℕ) (r : Rule) → g d ≡ some r → GoodRule r) where
+module _ (first : ℕ) (ats os : List ℕ) (ok : Valid first ats os) (g : ℕ → Option Rule) (good : (d : ℕ) (r : Rule) → g d ≡ Some r → GoodRule r) where
   abbrev z : Zone
   z = zone_of first ats os
 

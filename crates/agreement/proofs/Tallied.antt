@@ -2,7 +2,7 @@
 use mathlib.Core.Path.{◌≡◌, ap, subst, ◌∙◌}
 use mathlib.Core.Bool.{not, ◌&&◌}
 use mathlib.Core.List.{List}
-use mathlib.Core.Option.{Option, none}
+use Rattle.std.specs.Prelude.{Option, None}
 use Prim.Native.Nat.{ℕ, ◌+◌, ◌-◌, ◌≤◌, ◌<◌}
 use lib.IntN.{ℤ}
 use Rattle.zone.specs.Zone.{date_at}
@@ -46,14 +46,14 @@ module _ (s : List ℕ) (c : Coverage) (named : Names s c) (start end : ℤ) (pa
   -- in phase p: the instants whose point answer has it
   pub phase_instants : (p : ℕ) → total segments (is_phase p) from (from + n) spans ≡ count (λ t. shows (is_phase p) (point_mark (point_of v t))) from n
   phase_instants p =
-      phase_total segments venue none v.coverage (window start end) (accepted s c named) opens run from n begun within p
+      phase_total segments venue None v.coverage (window start end) (accepted s c named) opens run from n begun within p
       ∙ same_count (λ t. shows (is_phase p) (point_at mark_of venue v.coverage t)) (λ t. shows (is_phase p) (point_mark (point_of v t))) from n
       (λ t a b. ap (shows (is_phase p)) (point_shown v t))
 
   -- outside coverage
   pub outside_instants : total segments is_unknown from (from + n) spans ≡ count (λ t. not (inside v.coverage t)) from n
-  outside_instants = outside_total segments venue none v.coverage (window start end) (accepted s c named) opens run from n begun within
+  outside_instants = outside_total segments venue None v.coverage (window start end) (accepted s c named) opens run from n begun within
 
   -- in no segment: the covered ones on a date that no rule governs
   pub hole_instants : n - total segments any_mark from (from + n) spans ≡ count (λ t. inside v.coverage t && free (v.governing (date_at v.zone t))) from n
-  hole_instants = hole_total segments venue none v.coverage (window start end) (accepted s c named) opens run from n begun within
+  hole_instants = hole_total segments venue None v.coverage (window start end) (accepted s c named) opens run from n begun within

@@ -2,7 +2,7 @@
 -- are covered but on a date that no rule governs. Assumes nothing.
 use mathlib.Core.Path.{◌≡◌, refl, ◌∙◌}
 use mathlib.Core.Bool.{Bool, true, false, not, ◌&&◌}
-use mathlib.Core.Option.{Option, none, some}
+use Rattle.std.specs.Prelude.{Option, None, Some}
 use Prim.Native.Nat.{ℕ, ◌+◌, ◌-◌, ◌≤◌, ◌<◌}
 use native.Mathlib.Decide.{dec_lt}
 use native.Mathlib.Omega.{arith}
@@ -20,13 +20,13 @@ use Rattle.agreement.proofs.Agreeing.{plain}
 
 -- what agrees shows the same phases
 same_phase : {A : Type 0} (v : Venue A) (c : Part) (t p : ℕ) (l o : Option Mark) → Agrees v c t l o → shows (is_phase p) l ≡ shows (is_phase p) o
-same_phase v c t p none o g =
+same_phase v c t p None o g =
     let e = g.not_known.1 (λ q x h. let z : ◌≡◌ {A = ℕ} 0 1 = cc in omega arith) in
     rw e
-same_phase v c t p (some unknown) o g =
+same_phase v c t p (Some unknown) o g =
     let e = g.not_known.1 (λ q x h. let z : ◌≡◌ {A = ℕ} 0 1 = cc in omega arith) in
     rw e
-same_phase v c t p (some (phase q x)) o g =
+same_phase v c t p (Some (phase q x)) o g =
     let e = (g.known q x).0 refl in
     rw e
 
@@ -47,18 +47,18 @@ module _ {A : Type 0} (v : Venue A) (c : Part) (t : ℕ) where
   same_outside l o g = by_cover c t (λ h. covered l g h) (λ h e. let z = g.outside.1 h in simp (z, e))
     where
       covered : (x : Option Mark) → Agrees v c t x o → Covered c t → shows is_unknown x ≡ not (inside c t)
-      covered none g' h = rw (inside_yes c t h)
-      covered (some (phase p e)) g' h = rw (inside_yes c t h)
-      covered (some unknown) g' h = absurd (g'.outside.0 refl h)
+      covered None g' h = rw (inside_yes c t h)
+      covered (Some (phase p e)) g' h = rw (inside_yes c t h)
+      covered (Some unknown) g' h = absurd (g'.outside.0 refl h)
 
   same_hole : (l o : Option Mark) → Agrees v c t l o → not (shows any_mark l) ≡ (inside c t && free (v.governing (v.reads t)))
   same_hole l o g = by_cover c t (λ h. covered l g h (v.governing (v.reads t)) refl) (λ h e. let z = g.outside.1 h in simp (z, e))
     where
       covered : (x : Option Mark) → Agrees v c t x o → Covered c t → (r : Option Rule) → v.governing (v.reads t) ≡ r
           → not (shows any_mark x) ≡ (inside c t && free (v.governing (v.reads t)))
-      covered none g' h r e = simp (inside_yes c t h, (g'.nothing.0 refl).1)
-      covered (some m) g' h none e = absurd (let y = g'.nothing.1 (h, e) in let z : ◌≡◌ {A = ℕ} 0 1 = cc in omega arith)
-      covered (some m) g' h (some r) e = simp (inside_yes c t h, e)
+      covered None g' h r e = simp (inside_yes c t h, (g'.nothing.0 refl).1)
+      covered (Some m) g' h None e = absurd (let y = g'.nothing.1 (h, e) in let z : ◌≡◌ {A = ℕ} 0 1 = cc in omega arith)
+      covered (Some m) g' h (Some r) e = simp (inside_yes c t h, e)
 
 module _ {A : Type 0} (B : Body A) (v : Venue A) (gap : A) (c w : Part) (ok : Accepted B v gap c) (opens : w.start < w.end) (pw : PlainWindow v w) where
   -- the row of n instants from a on, inside the window

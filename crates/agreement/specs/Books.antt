@@ -1,7 +1,7 @@
 -- What agrees over a plain window of a book: demand 3's sentence, over the book's records. Instants are document 01's integers.
 -- Assumes nothing.
 use Rattle.std.specs.Prelude.{ℕ, ◌≡◌, ◌↔◌, true, List, ℤ}
-use Rattle.std.proofs.Math.Option.{Option, none, some}
+use Rattle.std.specs.Prelude.{Option, None, Some}
 use Rattle.std.specs.Int.Signed.{lt_z, le_z}
 use Rattle.zone.specs.Zone.{date_at}
 use Rattle.records.specs.Limits.{base}
@@ -15,7 +15,7 @@ use Rattle.zone.specs.Units.{instant_of}
 -- the book is accepted and names a venue, whose coverage is c: so does every accepted book but that of zero bytes
 pub record Names (s : List ℕ) (c : Coverage) : Type 0 where
   pub accepted : refusal base s ≡ 0
-  pub coverage : coverage_of (records s) ≡ some c
+  pub coverage : coverage_of (records s) ≡ Some c
 
 -- from an integer to before another
 abbrev pub Between : ℤ → ℤ → ℤ → Type 0
@@ -23,11 +23,11 @@ Between start end at = (le_z start at ≡ true) × (lt_z at end ≡ true)
 
 -- no rule governs the date that the instant reads
 abbrev pub Ungoverned : Values → ℤ → Type 0
-Ungoverned v at = v.governing (date_at v.zone (instant_of at)) ≡ none
+Ungoverned v at = v.governing (date_at v.zone (instant_of at)) ≡ None
 
 -- A phase segment stands at the instant exactly when the point answer is known, with the same phase and evidence; an unknown segment exactly
 -- outside coverage; no segment exactly where coverage holds but no rule governs.
 pub record Agreed (s : List ℕ) (c : Coverage) (at : ℤ) (segment point : Option Mark) : Type 0 where
-  pub known : (p e : ℕ) → (segment ≡ some (phase p e)) ↔ (point ≡ some (phase p e))
-  pub outside : (segment ≡ some unknown) ↔ (Between c.start c.end at → ⊥)
-  pub nothing : (segment ≡ none) ↔ (Between c.start c.end at × Ungoverned (values_of (records s) c) at)
+  pub known : (p e : ℕ) → (segment ≡ Some (phase p e)) ↔ (point ≡ Some (phase p e))
+  pub outside : (segment ≡ Some unknown) ↔ (Between c.start c.end at → ⊥)
+  pub nothing : (segment ≡ None) ↔ (Between c.start c.end at × Ungoverned (values_of (records s) c) at)

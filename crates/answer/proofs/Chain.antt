@@ -1,8 +1,8 @@
 -- One writer after another, from the last backwards. Assumes nothing.
-use mathlib.Core.Path.{◌≡◌, refl, sym, ap, subst, ◌∙◌}
+use mathlib.Core.Path.{◌≡◌, refl, sym, ap, ◌∙◌}
 use mathlib.Core.Bool.{true}
 use mathlib.Core.List.{List, [], ◌∷◌, ◌++◌, append_assoc, append-nil}
-use mathlib.Core.Option.{Option, none, some}
+use Rattle.std.specs.Prelude.{Option, None, Some}
 use Prim.Native.Nat.{ℕ, zero, suc, ◌+◌, ◌*◌, ◌≤◌, ◌<◌}
 use native.Mathlib.Omega.{arith}
 use borrow.Author.Tests.{ltb-true}
@@ -12,7 +12,6 @@ use lib.ListN.{length, get_or, take, drop, length-append, length-take, length-dr
 use mir.Syntax.{w64}
 use mir.Val.{of_z}
 use Rattle.wire.specs.Fields.{Inside, Put, bytes, wrote, Field, laid}
-use lib.Seq.{take_all}
 use Rattle.wire.proofs.Writing.{also, wrote_nothing}
 use Rattle.zone.specs.Answers.{Values}
 use Rattle.records.specs.Layout.{Place, kind}
@@ -67,8 +66,8 @@ event_bytes e = simp (append_assoc, append-nil)
 
 -- coverage has the same bytes wherever it stands
 cover_place : (p q : Place) (c : Option Cover) → cover_fields p c ≡ cover_fields q c
-cover_place p q none = refl
-cover_place p q (some c) = refl
+cover_place p q None = refl
+cover_place p q (Some c) = refl
 
 pub gap_bytes : (g : Gap) → encode (unknown g) ≡ head gap_length gap_kind ++ ((signed8 g.start ++ signed8 g.end) ++ laid (cover_fields kind g.coverage))
 unfolding encode laid
@@ -82,11 +81,11 @@ missing_bytes m =
     simp append_assoc
     (ap (λ (c : List Field). bytes 2 missing_length ++ (bytes 2 missing_kind ++ (signed8 m.at ++ laid c))) (cover_place missing_at kind m.coverage))
 
-pub nothing_bytes : bytes 1 0 ++ (bytes 8 0 ++ bytes 8 0) ≡ laid (cover_fields kind none)
+pub nothing_bytes : bytes 1 0 ++ (bytes 8 0 ++ bytes 8 0) ≡ laid (cover_fields kind None)
 unfolding laid
 nothing_bytes = simp append-nil
 
-pub between_bytes : (s e : ℤ) → bytes 1 1 ++ (signed8 s ++ signed8 e) ≡ laid (cover_fields kind (some (record { start = s; end = e })))
+pub between_bytes : (s e : ℤ) → bytes 1 1 ++ (signed8 s ++ signed8 e) ≡ laid (cover_fields kind (Some (record { start = s; end = e })))
 unfolding laid
 between_bytes s e = simp append-nil
 
@@ -101,7 +100,7 @@ unfolding encode laid
 tally_bytes t = simp append_assoc
 
 -- one total more
-pub one_more : (i : ℕ) (ts : List ℕ) → i < length ts → totals_bytes (take i ts) ++ bytes 8 (get_or ts i 0) ≡ totals_bytes (take (suc i) ts)
+one_more : (i : ℕ) (ts : List ℕ) → i < length ts → totals_bytes (take i ts) ++ bytes 8 (get_or ts i 0) ≡ totals_bytes (take (suc i) ts)
 unfolding laid
 one_more i [] h = absurd (omega arith)
 one_more zero (t ∷ ts) h = sym (append-nil (bytes 8 t))
@@ -111,15 +110,9 @@ pub nothing_yet : (room : List ℕ) (at : ℕ) (ts : List ℕ) → Put room at (
 unfolding laid
 nothing_yet room at ts = record { same = sym (wrote_nothing room at); behind = omega arith; many = refl; kept = refl }
 
-module _ (ts : List ℕ) (i : ℕ) {room now : List ℕ} {at place : ℕ} (w : Put room at (totals_bytes (take i ts)) (8 * i) now place) where
-  pub next_room : at + 8 * length ts ≤ length room → i < length ts → Inside place 8 now
-  next_room h l = omega (arith, w.behind, w.kept)
-
-  pub next_put : {after : List ℕ} {next : ℕ} → at + 8 * length ts ≤ length room → i < length ts → Put now place (bytes 8 (get_or ts i 0)) 8 after next
-      → Put room at (totals_bytes (take (i + 1) ts)) (8 * (i + 1)) after next
-  next_put h l y =
-      let e : i + 1 ≡ suc i = omega arith in
-      rw (e, ← (one_more i ts l)) (also (8 * suc i) w y (omega arith) (omega arith))
-
-  pub all_put : i ≡ length ts → Put room at (totals_bytes ts) (8 * length ts) now place
-  all_put e = let t = take_all i ts (omega arith) in rw (← e) (subst (λ (l : List ℕ). Put room at (totals_bytes l) (8 * i) now place) t w)
+pub next_put : (ts : List ℕ) (i : ℕ) {room now after : List ℕ} {at place next : ℕ} → Put room at (totals_bytes (take i ts)) (8 * i) now place
+    → at + 8 * length ts ≤ length room → i < length ts → Put now place (bytes 8 (get_or ts i 0)) 8 after next
+    → Put room at (totals_bytes (take (i + 1) ts)) (8 * (i + 1)) after next
+next_put ts i w h l y =
+    let e : i + 1 ≡ suc i = omega arith in
+    rw (e, ← (one_more i ts l)) (also (8 * suc i) w y (omega arith) (omega arith))

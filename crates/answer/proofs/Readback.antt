@@ -2,7 +2,7 @@
 use mathlib.Core.Path.{◌≡◌, refl, sym, ap, ◌∙◌}
 use mathlib.Core.Bool.{cond}
 use mathlib.Core.List.{List, [], ◌∷◌, ◌++◌, map, append-nil}
-use mathlib.Core.Option.{Option, none, some}
+use Rattle.std.specs.Prelude.{Option, None, Some}
 use Prim.Native.Nat.{ℕ, zero, suc, ◌+◌, ◌*◌, ◌^◌, ◌<◌}
 use native.Mathlib.Omega.{arith}
 use lib.Dec.{eqb}
@@ -27,8 +27,8 @@ use Rattle.answer.specs.Fitting.{Sized, FitsValues, FitsCover, FitsEach, FitsTot
 -- ---- how many
 
 cover_span : (p : Place) (c : Option Cover) → span (cover_fields p c) ≡ cover_size
-cover_span p none = refl
-cover_span p (some c) = refl
+cover_span p None = refl
+cover_span p (Some c) = refl
 
 totals_span : (xs : List ℕ) → span (map (put total_place) xs) ≡ 8 * length xs
 totals_span [] = refl
@@ -72,7 +72,7 @@ side_at p s at = record { at = integer p s at; uncertainty = values_at p s at }
 
 abbrev cover_at : Place → List ℕ → ℕ → Option Cover
 cover_at p s at =
-    cond (eqb (number (present_behind p) s at) 1) (some (record { start = integer (cover_start p) s at; end = integer (cover_end p) s at })) none
+    cond (eqb (number (present_behind p) s at) 1) (Some (record { start = integer (cover_start p) s at; end = integer (cover_end p) s at })) None
 
 -- n totals from `at` on
 abbrev totals_at : List ℕ → ℕ → ℕ → List ℕ
@@ -142,8 +142,8 @@ values_narrow : (p : Place) (u : Values) (rest : List Field) → FitsValues u �
 values_narrow p u rest f n = (f.tag, (bits_narrow f.one, (bits_narrow f.two, (f.text, n))))
 
 cover_narrow : (p : Place) (c : Option Cover) → FitsCover c → Narrow (cover_fields p c)
-cover_narrow p none f = (omega arith, (omega arith, (omega arith, tt)))
-cover_narrow p (some c) f = (omega arith, (bits_narrow f.0, (bits_narrow f.1, tt)))
+cover_narrow p None f = (omega arith, (omega arith, (omega arith, tt)))
+cover_narrow p (Some c) f = (omega arith, (bits_narrow f.0, (bits_narrow f.1, tt)))
 
 totals_narrow : (xs : List ℕ) → FitsEach xs → Narrow (map (put total_place) xs)
 totals_narrow [] f = tt
@@ -197,8 +197,8 @@ module _ (s : List ℕ) (at : ℕ) where
       (rw (t, one, two, x), n)
 
   cover_read : (p : Place) (c : Option Cover) → FitsCover c → Says (cover_fields p c) s at (present_behind p).from → cover_at p s at ≡ c
-  cover_read p none f (k, n) = rw k
-  cover_read p (some c) f (k, (a, (b, n))) =
+  cover_read p None f (k, n) = rw k
+  cover_read p (Some c) f (k, (a, (b, n))) =
       let start = back (cover_start p) c.start f.0 a in
       let end = back (cover_end p) c.end f.1 b in
       rw k (rw (start, end))

@@ -18,8 +18,8 @@ use Rattle.answer.specs.Meaning.{side_of, phase_of, event_of, cover_of, missing_
 use Rattle.answer.specs.Fitting.{FitsValues, FitsSide, FitsCover, Fitting}
 use Rattle.answer.specs.Used.{UsedUncertainty, UsedBoundary, UsedCover, InUse}
 use Rattle.answer.specs.declared.Phase.{Phase}
-use Rattle.answer.specs.declared.Covered.{Covered}
-use Rattle.answer.specs.declared.Covered.TheVariants.{Nothing, Between}
+use Rattle.zone.specs.declared.Interval.{Interval}
+use Rattle.std.specs.Prelude.{Option, None, Some}
 
 pub instant_fits : (t : ℕ) → t ≤ last_instant → SFits w64 (instant_number t)
 instant_fits t h = go (ltb t (zero_day * day_ns)) refl
@@ -45,9 +45,9 @@ values_fit (NonexistentLocalTime d) h =
 pub side_fits : (b : Boundary) → UsedBoundary b → FitsSide (side_of b)
 side_fits b h = record { at = instant_fits b.at.0 h.at; uncertainty = values_fit b.uncertainty h.uncertainty }
 
-pub cover_fits : (c : Covered) → UsedCover c → FitsCover (cover_of c)
-cover_fits Nothing h = tt
-cover_fits (Between s e) h = (instant_fits s.0 h.0, instant_fits e.0 h.1)
+pub cover_fits : (c : Option Interval) → UsedCover c → FitsCover (cover_of c)
+cover_fits None h = tt
+cover_fits (Some i) h = (instant_fits i.start.0 h.0, instant_fits i.end.0 h.1)
 
 pub phase_bytes_fit : (p : Phase) → InUse p → Fitting (phase (phase_of p))
 phase_bytes_fit p h =
@@ -70,8 +70,8 @@ pub event_bytes_fit : (code : ℕ) (b : Boundary) (evidence : ℕ) → code < 2 
 event_bytes_fit code b evidence c h e =
     record { code = c; at = instant_fits b.at.0 h.at; uncertainty = values_fit b.uncertainty h.uncertainty; evidence = e }
 
-pub gap_bytes_fit : (s e : ℕ) (c : Covered) → s ≤ last_instant → e ≤ last_instant → UsedCover c → Fitting (unknown (gap_of s e c))
+pub gap_bytes_fit : (s e : ℕ) (c : Option Interval) → s ≤ last_instant → e ≤ last_instant → UsedCover c → Fitting (unknown (gap_of s e c))
 gap_bytes_fit s e c h i u = record { start = instant_fits s h; end = instant_fits e i; coverage = cover_fits c u }
 
-pub missing_bytes_fit : (t : ℕ) (c : Covered) → t ≤ last_instant → UsedCover c → Fitting (point (missing_of t c))
+pub missing_bytes_fit : (t : ℕ) (c : Option Interval) → t ≤ last_instant → UsedCover c → Fitting (point (missing_of t c))
 missing_bytes_fit t c h u = record { at = instant_fits t h; coverage = cover_fits c u }

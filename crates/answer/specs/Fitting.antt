@@ -1,6 +1,6 @@
 -- Which answers fit their fields. Assumes nothing.
 use Rattle.std.specs.Prelude.{ℕ, ◌<◌, ◌^◌, ◌≡◌, List, [], ◌∷◌, length}
-use Rattle.std.proofs.Math.Option.{Option, none, some}
+use Rattle.std.specs.Prelude.{Option, None, Some}
 use Rattle.std.specs.Int.{w64}
 use Rattle.std.proofs.Common.{SFits}
 use Rattle.zone.specs.Answers.{Values}
@@ -29,8 +29,8 @@ pub record FitsSide (s : Side) : Type 0 where
   pub uncertainty : FitsValues s.uncertainty
 
 abbrev pub FitsCover : Option Cover → Type 0
-FitsCover none = Unit {0}
-FitsCover (some c) = SFits w64 c.start × SFits w64 c.end
+FitsCover None = Unit {0}
+FitsCover (Some c) = SFits w64 c.start × SFits w64 c.end
 
 abbrev pub FitsEach : List ℕ → Type 0
 FitsEach [] = Unit {0}

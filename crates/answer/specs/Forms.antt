@@ -1,6 +1,6 @@
 -- Answers as values, and their bytes: document 01, "Answer forms". Every field stands behind the one before it and is said once. Assumes nothing.
 use Rattle.std.specs.Prelude.{ℕ, ◌+◌, List, [], ◌∷◌, ◌++◌, map, ℤ, pos}
-use Rattle.std.proofs.Math.Option.{Option, none, some}
+use Rattle.std.specs.Prelude.{Option, None, Some}
 use Rattle.std.specs.Int.{w64}
 use Rattle.wire.specs.Fields.{Field, laid}
 use Rattle.zone.specs.Answers.{Values}
@@ -248,8 +248,8 @@ uncertainty_fields p u rest =
 
 -- present 1 and its start and end; absent all 0
 abbrev pub cover_fields : Place → Option Cover → List Field
-cover_fields p none = put (present_behind p) 0 ∷ put_signed w64 (cover_start p) (pos 0) ∷ put_signed w64 (cover_end p) (pos 0) ∷ []
-cover_fields p (some c) = put (present_behind p) 1 ∷ put_signed w64 (cover_start p) c.start ∷ put_signed w64 (cover_end p) c.end ∷ []
+cover_fields p None = put (present_behind p) 0 ∷ put_signed w64 (cover_start p) (pos 0) ∷ put_signed w64 (cover_end p) (pos 0) ∷ []
+cover_fields p (Some c) = put (present_behind p) 1 ∷ put_signed w64 (cover_start p) c.start ∷ put_signed w64 (cover_end p) c.end ∷ []
 
 -- the totals one behind the other
 abbrev pub totals_fields : Totals → List Field

@@ -1,6 +1,6 @@
 -- Which values the code's answers mean, in document 01's numbers; and how long answers are. Assumes nothing.
 use Rattle.std.specs.Prelude.{ℕ, ◌+◌, List, map}
-use Rattle.std.proofs.Math.Option.{Option, none, some}
+use Rattle.std.specs.Prelude.{Option, None, Some}
 use Rattle.wire.specs.Fields.{laid}
 use Rattle.records.specs.Layout.{kind}
 use Rattle.records.specs.Records.{put}
@@ -10,8 +10,9 @@ use Rattle.zone.specs.declared.Boundary.{Boundary}
 use Rattle.answer.specs.Forms as Forms
 use Rattle.answer.specs.Forms.{Side, Cover, Form, cover_fields, total_place, length_of}
 use Rattle.answer.specs.declared.Phase.{Phase}
-use Rattle.answer.specs.declared.Covered.{Covered}
-use Rattle.answer.specs.declared.Covered.TheVariants.{Nothing, Between}
+use Rattle.zone.specs.declared.Interval.{Interval}
+use Rattle.answer.specs.declared.RowKind.{RowKind}
+use Rattle.answer.specs.declared.RowKind.TheVariants.{Day, Closing}
 
 abbrev pub side_of : Boundary → Side
 side_of b = record { at = instant_number b.at.0; uncertainty = values b.uncertainty }
@@ -35,18 +36,18 @@ phase_of p =
 abbrev pub event_of : ℕ → Boundary → ℕ → Forms.Event
 event_of code b evidence = record { code = code; at = instant_number b.at.0; uncertainty = values b.uncertainty; evidence = evidence }
 
-abbrev pub cover_of : Covered → Option Cover
-cover_of Nothing = none
-cover_of (Between s e) = some (record { start = instant_number s.0; end = instant_number e.0 })
+abbrev pub cover_of : Option Interval → Option Cover
+cover_of None = None
+cover_of (Some i) = Some (record { start = instant_number i.start.0; end = instant_number i.end.0 })
 
 -- 17 bytes
-abbrev pub cover_bytes : Covered → List ℕ
+abbrev pub cover_bytes : Option Interval → List ℕ
 cover_bytes c = laid (cover_fields kind (cover_of c))
 
-abbrev pub missing_of : ℕ → Covered → Forms.Missing
+abbrev pub missing_of : ℕ → Option Interval → Forms.Missing
 missing_of t c = record { at = instant_number t; coverage = cover_of c }
 
-abbrev pub gap_of : ℕ → ℕ → Covered → Forms.Gap
+abbrev pub gap_of : ℕ → ℕ → Option Interval → Forms.Gap
 gap_of s e c = record { start = instant_number s; end = instant_number e; coverage = cover_of c }
 
 -- eight bytes for each total
@@ -55,6 +56,11 @@ totals_bytes ts = laid (map (put total_place) ts)
 
 abbrev pub totals_of : ℕ → ℕ → List ℕ → Forms.Totals
 totals_of s e ts = record { start = instant_number s; end = instant_number e; totals = ts }
+
+-- kind 22 of a day, kind 23 of the closing total
+abbrev pub row_form : RowKind → Forms.Totals → Form
+row_form Day ts = Forms.day ts
+row_form Closing ts = Forms.tally ts
 
 -- bytes of a record: its length's two, and the length
 abbrev pub bytes_of : Form → ℕ

@@ -1,13 +1,12 @@
 -- What the code's answers may hold, so that they fit: instants in use, widths below 2^63, and numbers as wide as their types. Assumes nothing.
-use Rattle.std.specs.Prelude.{◌≤◌, ◌<◌, ◌^◌}
+use Rattle.std.specs.Prelude.{◌≤◌, ◌<◌, ◌^◌, Option, None, Some}
 use Rattle.zone.specs.Units.{last_instant}
 use Rattle.zone.specs.declared.Boundary.{Boundary}
 use Rattle.zone.specs.declared.Doubt.{Doubt}
 use Rattle.zone.specs.declared.Uncertainty.{Uncertainty}
 use Rattle.zone.specs.declared.Uncertainty.TheVariants.{Exact, PublishedGranularity, PublishedBound, ProcessStart, AmbiguousLocalTime, NonexistentLocalTime}
 use Rattle.answer.specs.declared.Phase.{Phase}
-use Rattle.answer.specs.declared.Covered.{Covered}
-use Rattle.answer.specs.declared.Covered.TheVariants.{Nothing, Between}
+use Rattle.zone.specs.declared.Interval.{Interval}
 
 abbrev pub UsedDoubt : Doubt → Type 0
 UsedDoubt d = (d.before.0 ≤ last_instant) × (d.after.0 ≤ last_instant)
@@ -24,9 +23,9 @@ pub record UsedBoundary (b : Boundary) : Type 0 where
   pub at : b.at.0 ≤ last_instant
   pub uncertainty : UsedUncertainty b.uncertainty
 
-abbrev pub UsedCover : Covered → Type 0
-UsedCover Nothing = Unit {0}
-UsedCover (Between s e) = (s.0 ≤ last_instant) × (e.0 ≤ last_instant)
+abbrev pub UsedCover : Option Interval → Type 0
+UsedCover None = Unit {0}
+UsedCover (Some i) = (i.start.0 ≤ last_instant) × (i.end.0 ≤ last_instant)
 
 pub record InUse (p : Phase) : Type 0 where
   pub start : p.start.0 ≤ last_instant

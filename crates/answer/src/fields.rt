@@ -1,5 +1,6 @@
 // The kinds of answers, and where the fields of each stand, counted from its first byte: each behind the one before it. Who writes an answer and
 // who reads it back both go by this table.
+// Kinds are the numbers that are written; nothing chooses by them.
 use records::{HEAD, KIND};
 
 // Uncertainty: its tag, two numbers and a text.

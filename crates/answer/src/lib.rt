@@ -10,9 +10,7 @@ pub use fields::{
     MARK_SIZE, MISSING_KIND, MISSING_LENGTH, MISSING_SIZE, PHASE, PHASE_KIND, PHASE_LENGTH,
     PHASE_SIZE, PRESENT, ROW_LENGTH, ROW_SIZE, START, TALLY_KIND, TO, TO_TAG, TOTALS, WHOLE_TAG,
 };
-pub use put::{
-    amend_phase, begin_phase, put_day, put_event, put_gap, put_missing, put_phase, put_tally,
-};
+pub use put::{amend_phase, begin_phase, put_event, put_gap, put_missing, put_phase, put_row};
 use zone::{Boundary, Instant, Uncertainty};
 
 // A phase answer: its span, its rule's numbers, its boundaries, its whole uncertainty and how many events follow.
@@ -31,9 +29,9 @@ pub struct Phase {
     pub events: u32,
 }
 
-// Coverage, if there is any.
+// A tally's row: of a day, or the closing total.
 #[derive(Clone, Copy)]
-pub enum Covered {
-    Nothing,
-    Between(Instant, Instant),
+pub enum RowKind {
+    Day,
+    Closing,
 }

@@ -1,20 +1,19 @@
 -- A window cut into columns: floors of products that may need more than 64 bits. Assumes nothing.
 use mathlib.Core.Path.{◌≡◌, refl, sym, ap, ◌∙◌}
-use mathlib.Core.Bool.{Bool, true, false}
+use mathlib.Core.Bool.{true}
 use Prim.Native.Nat.{ℕ, suc, ◌+◌, ◌-◌, ◌*◌, ◌/◌, ◌%◌, ◌^◌, ◌≤◌, ◌<◌}
-use native.Mathlib.Nat.{div-add-mod, mul-add-div, mul-add-div_right, mul-add-mod_self_left, div-eq_of_lt, mod-eq_of_lt, zero-div, zero-mod, mod-lt}
+use native.Mathlib.Nat.{div-add-mod, mul-add-div, mul-add-mod_self_left, div-eq_of_lt, mod-eq_of_lt, zero-div, zero-mod, mod-lt}
 use native.Mathlib.Nat.{div-le_of_le-mul, div-lt_iff_lt-mul, le-div_iff_mul-le, div-mul-le_self}
-use native.Mathlib.Nat.{mul-add, add-mul, zero-mul, mul-zero, mul_comm, mul-suc, le-mul_of_pos_right, mul-le-mul_left, mul-le-mul_right, mul-lt-mul_of_pos_left, mul-lt-mul_of_pos_right}
+use native.Mathlib.Nat.{mul-add, add-mul, mul-zero, mul_comm, mul-suc, mul-le-mul_left, mul-le-mul_right, mul-lt-mul_of_pos_left, mul-lt-mul_of_pos_right}
 use native.Mathlib.Decide.{dec_lt}
 use native.Mathlib.Numerals.{add-one}
 use native.Mathlib.Omega.{arith}
-use borrow.Author.Tests.{le-leb, lt-leb, lt-ltb, le-ltb}
+use borrow.Author.Tests.{le-leb, lt-ltb}
 use lib.IntN.{ℤ, pos, negsuc}
 use mir.Syntax.{w64}
 use Rattle.wire.specs.Signs.{half, placed}
-use Rattle.wire.proofs.Signs.{and_no}
 use Rattle.board.specs.Cells.{columns_of, cell_instant, marker_column, most_columns, fewest_columns}
-use Rattle.board.specs.Private.{Good, PaceOf, ColumnOf, amount, Small, Sum}
+use Rattle.board.specs.Private.{Good, PaceOf, ColumnOf, amount, Sum}
 use Rattle.board.specs.declared.grid.Grid.{Grid}
 use Rattle.board.specs.declared.grid.Pace.{Pace}
 use Rattle.board.specs.declared.grid.Column.{Column}
@@ -149,26 +148,6 @@ module _ (g : Grid) (o : Good g) where
 
 -- ---- the marker's column
 
-module _ (start end columns : ℕ) (marked : Bool) (at : ℕ) where
-  pub marker_none : marked ≡ false → columns ≡ marker_column start end columns marked at
-  marker_none e = simp e
-
-  pub marker_early : at < start → columns ≡ marker_column start end columns marked at
-  marker_early h = simp (lt-leb start at h, and_no)
-
-  pub marker_late : end ≤ at → columns ≡ marker_column start end columns marked at
-  marker_late h = simp (le-ltb at end h, and_no)
-
-  pub marker_in : marked ≡ true → start ≤ at → at < end → (r : ℕ) → r ≡ (at - start) * columns / (end - start)
-      → r ≡ marker_column start end columns marked at
-  marker_in e a b r q = simp (e, le-leb start at a, lt-ltb at end b) q
-
--- what is gone in 416 days, for each column
-pub short_fits : (gone columns : ℕ) → gone ≤ 2 ^ 55 - 1 → columns ≤ most_columns → gone * columns < 2 ^ 64
-short_fits gone columns s f =
-    let m : gone * columns ≤ gone * most_columns = mul-le-mul_left gone f in
-    omega arith
-
 -- the sum, and the term as often as is left, are what is gone for each column
 pub record Sharing (gone columns span : ℕ) (sum term : Mixed) (left : ℕ) : Type 0 where
   pub total : amount span sum + amount span term * left ≡ gone * columns
@@ -176,12 +155,6 @@ pub record Sharing (gone columns span : ℕ) (sum term : Mixed) (left : ℕ) : T
   pub term_part : term.part < span
 
 module _ (gone columns span : ℕ) (h : gone < span) (few : columns ≤ most_columns) where
-  pub share_start : Sharing gone columns span (record { whole = 0; part = 0 }) (record { whole = 0; part = gone }) columns
-  share_start =
-      let z : 0 * span ≡ 0 = zero-mul span in
-      let m : (0 * span + gone) * columns ≡ gone * columns = ap (λ (x : ℕ). x * columns) (omega (arith, z)) in
-      record { total = omega (arith, z, m); sum_part = omega arith; term_part = h }
-
   whole_few : (w : ℕ) → w * span ≤ gone * columns → w ≤ most_columns
   whole_few w l = go (dec_lt most_columns w)
     where
@@ -193,25 +166,7 @@ module _ (gone columns span : ℕ) (h : gone < span) (few : columns ≤ most_col
           absurd (omega arith)
 
   module _ (sum term : Mixed) (left : ℕ) (i : Sharing gone columns span sum term left) where
-    pub sum_small : Small span sum
-    sum_small = record { part = i.sum_part; few = whole_few sum.whole (omega (arith, i.total)) }
-
-    pub share_end : left ≤ 0 → sum.whole ≡ gone * columns / span
-    share_end e =
-        let z : left ≡ 0 = omega arith in
-        let m : amount span term * left ≡ 0 = ap (λ (x : ℕ). amount span term * x) z ∙ mul-zero (amount span term) in
-        let t : gone * columns ≡ sum.whole * span + sum.part = omega (arith, m, i.total) in
-        let p : 0 < span = omega arith in
-        let d : sum.part / span ≡ 0 = div-eq_of_lt i.sum_part in
-        let w : (sum.whole * span + sum.part) / span ≡ sum.whole + sum.part / span = mul-add-div_right p sum.whole sum.part in
-        sym (ap (λ (x : ℕ). x / span) t ∙ w ∙ omega (arith, d))
-
     module _ (l : 0 < left) where
-      pub term_small : Small span term
-      term_small =
-          let m : amount span term ≤ amount span term * left = le-mul_of_pos_right (amount span term) l in
-          record { part = i.term_part; few = whole_few term.whole (omega (arith, i.total, m)) }
-
       module _ (twice : Mixed) (d : Sum span term term twice) where
         doubled : amount span twice * (left / 2) ≡ amount span term * (left / 2) + amount span term * (left / 2)
         doubled = ap (λ (x : ℕ). x * (left / 2)) d.same ∙ add-mul (amount span term) (amount span term) (left / 2)

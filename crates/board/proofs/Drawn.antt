@@ -1,13 +1,12 @@
 -- Cells, stretch by stretch. Assumes nothing.
 use mathlib.Core.Path.{◌≡◌, refl, sym, ap, ap₂, ◌∙◌, subst}
-use mathlib.Core.Bool.{Bool, true, false, not, ◌&&◌}
+use mathlib.Core.Bool.{true}
 use mathlib.Core.List.{List, [], ◌∷◌, ◌++◌}
-use mathlib.Core.Option.{none, some}
+use Rattle.std.specs.Prelude.{None, Some}
 use Prim.Native.Nat.{ℕ, zero, suc, ◌+◌, ◌-◌, ◌^◌, ◌≤◌, ◌<◌}
 use native.Mathlib.Nat.{zero-add, add-zero, suc-add}
 use native.Mathlib.Decide.{dec_lt}
 use native.Mathlib.Omega.{arith}
-use borrow.Author.Tests.{eq-eqb, ne_eqb}
 use lib.ListN.{length, get_or, set, length-set, length-append}
 use Rattle.wire.specs.Fields.{wrote}
 use Rattle.wire.proofs.Writing.{wrote_length, wrote_wrote, wrote_one, wrote_nothing}
@@ -16,8 +15,6 @@ use Rattle.spans.proofs.Lists.{look_in, look_late, before}
 use Rattle.rows.specs.Rows as Rows
 use Rattle.rows.specs.Rows.{good_row, segments, segments_at, shown_at}
 use Rattle.rows.specs.Telling.{mark_of, segment_of, span_of, end_of}
-use Rattle.rows.specs.declared.Shows.{Shows}
-use Rattle.rows.specs.declared.Shows.TheVariants.{Phase}
 use Rattle.rows.specs.declared.RowSegment.{RowSegment}
 use Rattle.rows.proofs.Laws.{good_within, InRow, row_in, Segmented, row_on, row_split}
 use Rattle.board.specs.Cells.{cell_instant, phase_glyph, glyph, cell_or, cell, cells_from, drawn}
@@ -32,35 +29,10 @@ past [] p d h = refl
 past (x ∷ l) zero d h = absurd (omega arith)
 past (x ∷ l) (suc p) d h = past l p d (omega arith)
 
-above : {k : ℕ} (p : ℕ) → k ≤ p → (p ≡ k → ⊥) → k + 1 ≤ p
-above p h n = omega arith
-
 -- none of the eight
-pub glyph_other : (p : ℕ) → (p ≡ 0 → ⊥) → (p ≡ 1 → ⊥) → (p ≡ 2 → ⊥) → (p ≡ 3 → ⊥) → (p ≡ 4 → ⊥) → (p ≡ 5 → ⊥) → (p ≡ 6 → ⊥) → (p ≡ 7 → ⊥)
-    → 42 ≡ phase_glyph p
+pub glyph_other : (p : ℕ) → 8 ≤ p → 42 ≡ phase_glyph p
 unfolding phase_glyph
-glyph_other p n0 n1 n2 n3 n4 n5 n6 n7 =
-    let z : 0 ≤ p = omega arith in
-    let h = above p (above p (above p (above p (above p (above p (above p (above p z n0) n1) n2) n3) n4) n5) n6) n7 in
-    sym (past (46 ∷ 45 ∷ 61 ∷ 35 ∷ 58 ∷ 61 ∷ 95 ∷ 33 ∷ []) p 42 h)
-
-pub glyph_phase : (x : Shows) (p e b : ℕ) → x ≡ Phase p e → b ≡ phase_glyph p → b ≡ glyph (some (mark_of x))
-glyph_phase x p e b i j = rw i j
-
-module _ (marker c byte : ℕ) where
-  pub cell_marked : c ≡ marker → 124 ≡ cell_or marker c byte
-  cell_marked e = simp (eq-eqb c marker e)
-
-  pub cell_plain : (c ≡ marker → ⊥) → byte ≡ cell_or marker c byte
-  cell_plain n = simp (ne_eqb c marker n)
-
-pub outside_marked : (m i : Bool) → i ≡ false → m ≡ (m && not i)
-outside_marked true i e = simp e
-outside_marked false i e = refl
-
-pub outside_inside : (m i : Bool) → i ≡ true → false ≡ (m && not i)
-outside_inside true i e = simp e
-outside_inside false i e = refl
+glyph_other p h = sym (past (46 ∷ 45 ∷ 61 ∷ 35 ∷ 58 ∷ 61 ∷ 95 ∷ 33 ∷ []) p 42 h)
 
 -- ---- writing
 
@@ -229,7 +201,7 @@ module _ (g : Grid) (o : Good g) (s old : List ℕ) (room : g.columns + 2 ≤ le
 
   module _ (new : List ℕ) (at c : ℕ) (d : Drawing g s old new at c) where
     -- nothing more stands in the row: the other cells are blank
-    module _ (none_left : segments_at s at ≡ []) (newer : List ℕ) (r : ℕ) (f : CellsFilled g c (2 ^ 64 - 1) (glyph none) new newer r) where
+    module _ (none_left : segments_at s at ≡ []) (newer : List ℕ) (r : ℕ) (f : CellsFilled g c (2 ^ 64 - 1) (glyph None) new newer r) where
       pub all_filled : r ≡ g.columns
       all_filled = go (dec_lt r g.columns)
         where
@@ -241,7 +213,7 @@ module _ (g : Grid) (o : Good g) (s old : List ℕ) (room : g.columns + 2 ≤ le
               absurd (omega arith)
           go (no h) = let i = f.inside in omega arith
 
-      blank : (i : ℕ) → c ≤ i → i < r → glyph (shown_at (segments s) (cell_instant g i)) ≡ glyph none
+      blank : (i : ℕ) → c ≤ i → i < r → glyph (shown_at (segments s) (cell_instant g i)) ≡ glyph None
       unfolding look
       blank i a b =
           let h = f.inside in
@@ -251,13 +223,13 @@ module _ (g : Grid) (o : Good g) (s old : List ℕ) (room : g.columns + 2 ≤ le
       draw_blank =
           let z = all_filled in
           record {
-            painted = paint_more g (segments s) old room new c d.painted (2 ^ 64 - 1) (glyph none) newer r f blank;
+            painted = paint_more g (segments s) old room new c d.painted (2 ^ 64 - 1) (glyph None) newer r f blank;
             ahead = record { rest = λ i a b. absurd (omega arith); low = d.ahead.low; order = d.ahead.order; on = d.ahead.on };
           }
 
     -- a segment: blank up to it, then its glyph
     module _ (x : RowSegment) (is : x ≡ segment_of s at) (t : Segmented s at) (mid newer : List ℕ) (held r : ℕ) (byte : ℕ)
-        (f : CellsFilled g c x.from.0 (glyph none) new mid held) (e : byte ≡ glyph (some (mark_of x.shows)))
+        (f : CellsFilled g c x.from.0 (glyph None) new mid held) (e : byte ≡ glyph (Some (mark_of x.shows)))
         (h : CellsFilled g held x.to.0 byte mid newer r) where
       abbrev span : Span Rows.Seen
       span = span_of s x
@@ -271,7 +243,7 @@ module _ (g : Grid) (o : Good g) (s old : List ℕ) (room : g.columns + 2 ≤ le
       by : (i : ℕ) → c ≤ i → i < g.columns → shown_at (segments s) (cell_instant g i) ≡ shown_at (span ∷ rest) (cell_instant g i)
       by i a b = d.ahead.rest i a b ∙ ap (λ (ss : List (Span Rows.Seen)). shown_at ss (cell_instant g i)) (row_split t is)
 
-      early : (i : ℕ) → c ≤ i → i < held → glyph (shown_at (segments s) (cell_instant g i)) ≡ glyph none
+      early : (i : ℕ) → c ≤ i → i < held → glyph (shown_at (segments s) (cell_instant g i)) ≡ glyph None
       early i a b =
           let k = f.inside in
           let l = f.before i a b in
@@ -297,16 +269,10 @@ module _ (g : Grid) (o : Good g) (s old : List ℕ) (room : g.columns + 2 ≤ le
       pub draw_on : Drawing g s old newer (end_of x) r
       draw_on =
           record {
-            painted = paint_more g (segments s) old room mid held (paint_more g (segments s) old room new c d.painted x.from.0 (glyph none) mid held f early)
+            painted = paint_more g (segments s) old room mid held (paint_more g (segments s) old room new c d.painted x.from.0 (glyph None) mid held f early)
                 x.to.0 byte newer r h inner;
             ahead = record { rest = late; low = x.to.0; order = order.2; on = row_on t is };
           }
-
-    pub draw_end : g.columns ≤ c → new ≡ wrote old 1 (cells_from g (segments s) g.columns 0)
-    draw_end h =
-        let p = d.painted.inside in
-        let z : c ≡ g.columns = omega arith in
-        d.painted.same ∙ ap (λ (n : ℕ). wrote old 1 (cells_from g (segments s) n 0)) z
 
 -- brackets enclose
 pub enclosed : (g : Grid) (ss : List (Span Rows.Seen)) (old mid : List ℕ) → g.columns + 2 ≤ length old

@@ -1,6 +1,6 @@
 -- A row drawn as cells. Document 01, "Board". Instants are placed, so that they compare as numbers. Assumes nothing.
 use Rattle.std.specs.Prelude.{ℕ, zero, suc, ◌+◌, ◌-◌, ◌*◌, ◌/◌, max, Bool, not, cond, ◌&&◌, List, [], ◌∷◌, ◌++◌, ltb, leb, eqb, ℤ, pos, negsuc, get_or}
-use Rattle.std.proofs.Math.Option.{Option, none, some}
+use Rattle.std.specs.Prelude.{Option, None, Some}
 use Rattle.std.specs.Int.{w64}
 use Rattle.wire.specs.Signs.{placed}
 use Rattle.records.specs.Book.{inside, instants, refuse, or_then}
@@ -30,9 +30,9 @@ phase_glyph p = get_or (46 ∷ 45 ∷ 61 ∷ 35 ∷ 58 ∷ 61 ∷ 95 ∷ 33 ∷ 
 
 -- blank where nothing stands, `?` for unknown
 abbrev pub glyph : Option Mark → ℕ
-glyph none = 32
-glyph (some unknown) = 63
-glyph (some (phase p e)) = phase_glyph p
+glyph None = 32
+glyph (Some unknown) = 63
+glyph (Some (phase p e)) = phase_glyph p
 
 -- `|` in the marker's column
 abbrev pub cell_or : ℕ → ℕ → ℕ → ℕ

@@ -1,6 +1,6 @@
 -- Document 01's cells of Book A, the numbers of columns, and small rows. Assumes nothing.
 use Rattle.std.specs.Prelude.{◌≡◌, refl, Bool, true, false, List, [], ◌∷◌, map, ℕ, ◌*◌, ℤ, pos, negsuc}
-use Rattle.std.proofs.Math.Option.{none}
+use Rattle.std.specs.Prelude.{None}
 use Rattle.wire.specs.Fields.{field, bytes, laid}
 use Rattle.wire.specs.Signs.{placed}
 use Rattle.zone.specs.Units.{second_ns}
@@ -36,7 +36,7 @@ abbrev shows : ℕ → ℕ → ℕ → Form
 shows p a b = cut p a b b
 
 abbrev gap : ℕ → ℕ → Form
-gap a b = unknown (record { start = pos (a * second_ns); end = pos (b * second_ns); coverage = none })
+gap a b = unknown (record { start = pos (a * second_ns); end = pos (b * second_ns); coverage = None })
 
 abbrev monday : ℕ
 monday = 1767571200

@@ -1,20 +1,20 @@
 // A row drawn as cells. It is judged first; then it is read, segment by segment, in step with the columns, and each byte is written once.
-ghost use Rattle.std.specs.Prelude.{◌+◌, ◌≤◌, ◌<◌, ◌≡◌, true, not, ◌&&◌, length};
-ghost use Rattle.std.proofs.Math.Option.{some};
+ghost use Rattle.std.specs.Prelude.{◌+◌, ◌≤◌, ◌<◌, ◌≡◌, true, not, cond, ◌&&◌, length};
+ghost use Rattle.std.specs.Prelude.{Some};
 ghost use Rattle.wire.specs.Fields.{wrote};
 ghost use Rattle.records.specs.Book.{inside, instants};
 ghost use Rattle.lend.specs.Lending.{Lent};
+ghost use Rattle.lend.specs.Refusals.{number_of, reply_of};
 ghost use Rattle.rows.specs.Rows.{good_row, segments};
 ghost use Rattle.rows.specs.Telling.{mark_of};
 ghost use Rattle.board.specs.Cells.{phase_glyph, glyph, cell_or, cells_from, judged_cells, text, cells_number, cells_answer};
 ghost use Rattle.board.specs.Private.{Good, PaceOf, ColumnOf, CellsFilled};
 
-use crate::TOO_MANY;
 use crate::grid::{Column, Grid, MOST, Pace, columns_of, marker_of, next_column, pace_of};
-use lend::{NO_ROOM, Reply, answered, refused};
-use query::{Asked, OUTSIDE, Window, asked_at, asked_window};
-use rows::{BAD_ROW, Shows, end_of, good_row, read_segment};
-use wire::{Placed, place};
+use lend::Refusal;
+use query::{asked_at, asked_window};
+use rows::{Shows, end_of, good_row, read_segment};
+use wire::Placed;
 
 const BLANK: u8 = b' ';
 
@@ -41,10 +41,10 @@ fn phase_glyph(phase: u8) -> u8
 }
 
 fn glyph_of(shows: Shows) -> u8
-    ensures { result ≡ glyph (some (mark_of shows)) }
+    ensures { result ≡ glyph (Some (mark_of shows)) }
 {
     match shows {
-        Shows::Phase(phase, evidence) => phase_glyph(phase),
+        Shows::Phase(phase, _) => phase_glyph(phase),
         Shows::Unknown => b'?',
     }
 }
@@ -62,6 +62,7 @@ fn fill(out: &mut [u8], grid: Grid, pace: Pace, first: Column, limit: u64, byte:
     ensures { ColumnOf grid result × CellsFilled grid first.c limit byte out.old out.new result.c }
 {
     let mut column = first;
+    // A column moves on with its instant and its remainder, which no range gives.
     while column.c < grid.columns {
         if limit <= column.at {
             return column;
@@ -84,16 +85,14 @@ fn put_cells(row: &[u8], grid: Grid, out: &mut [u8])
         at: grid.start,
         part: 0,
     };
+    // A column moves on with its instant and its remainder, which no range gives.
     while column.c < grid.columns {
         if at == row.len() {
             column = fill(out, grid, pace, column, LAST, BLANK);
         } else {
             let g = read_segment(row, at);
-            let from = g.from;
-            let to = g.to;
-            let shows = g.shows;
-            let held = fill(out, grid, pace, column, from.0, BLANK);
-            column = fill(out, grid, pace, held, to.0, glyph_of(shows));
+            let held = fill(out, grid, pace, column, g.from.0, BLANK);
+            column = fill(out, grid, pace, held, g.to.0, glyph_of(g.shows));
             at = end_of(g);
         }
     }
@@ -102,27 +101,27 @@ fn put_cells(row: &[u8], grid: Grid, out: &mut [u8])
 // Of a window that passes, with a now that is in range or no marker.
 fn tell_cells(
     row: &[u8],
-    start: Placed,
-    end: Placed,
+    start: Placed<u64>,
+    end: Placed<u64>,
     columns: i64,
     marked: bool,
-    at: Placed,
+    at: Placed<u64>,
     out: &mut [u8],
-) -> Reply
+) -> Result<usize, Refusal>
     requires { start.0 < end.0 }
     ensures { Lent (judged_cells row.now columns) (text row.now start.0 end.0 columns marked at.0)
-        out.old out.new result }
+        out.old out.new (reply_of result) }
 {
     let many = columns_of(columns);
     if MOST < many {
-        return refused(TOO_MANY);
+        return Err(Refusal::TooManyColumns);
     }
     if !good_row(row) {
-        return refused(BAD_ROW);
+        return Err(Refusal::BadRow);
     }
     let length = many as usize + 2;
     if out.len() < length {
-        return refused(NO_ROOM);
+        return Err(Refusal::NoRoom);
     }
     let marker = marker_of(start, end, many, marked, at);
     let grid = Grid {
@@ -134,17 +133,17 @@ fn tell_cells(
     out[0] = b'[';
     put_cells(row, grid, out);
     out[length - 1] = b']';
-    answered(length)
+    Ok(length)
 }
 
 // A now counts only where it is marked.
-fn is_outside(marked: bool, at: i64) -> bool
-    ensures { result ≡ (marked && not (inside instants at)) }
+fn judged_now(marked: bool, at: i64) -> Result<(), Refusal>
+    ensures { number_of result ≡ cond (marked && not (inside instants at)) 10 0 }
 {
-    match asked_at(at) {
-        Asked::Outside => marked,
-        Asked::At(t) => false,
+    if marked {
+        asked_at(at)?;
     }
+    Ok(())
 }
 
 // Any bytes, any window, any columns, any now, any room.
@@ -156,23 +155,19 @@ pub fn cells_answer(
     marked: bool,
     at: i64,
     out: &mut [u8],
-) -> Reply
+) -> Result<usize, Refusal>
     ensures { Lent (cells_number row.now start end columns marked at) (cells_answer row.now start end columns marked at)
-        out.old out.new result }
+        out.old out.new (reply_of result) }
 {
-    if is_outside(marked, at) {
-        return refused(OUTSIDE);
-    }
-    match asked_window(start, end) {
-        Window::Refused(n) => refused(n),
-        Window::Between(a, b) => tell_cells(
-            row,
-            place(start),
-            place(end),
-            columns,
-            marked,
-            place(at),
-            out,
-        ),
-    }
+    judged_now(marked, at)?;
+    asked_window(start, end)?;
+    tell_cells(
+        row,
+        Placed::from(start),
+        Placed::from(end),
+        columns,
+        marked,
+        Placed::from(at),
+        out,
+    )
 }

@@ -4,7 +4,7 @@ ghost use Rattle.std.specs.Prelude.{◌+◌, ◌*◌, ◌/◌, ◌≤◌, ◌<�
 ghost use Rattle.board.specs.Cells.{most_columns, columns_of, marker_column};
 ghost use Rattle.board.specs.Private.{Good, PaceOf, ColumnOf, Small, Sum};
 
-use wire::{HALF8, Placed, place};
+use wire::{HALF8, Placed};
 
 // Where a window starts, as a placed number, how long it is, how many columns it has, and the marker's column: `columns`, which is none
 // of them, where there is no marker.
@@ -48,7 +48,7 @@ const SHORT: u64 = 0x7f_ffff_ffff_ffff;
 pub(crate) fn columns_of(columns: i64) -> u64
     ensures { result ≡ columns_of columns }
 {
-    let p = place(columns).0;
+    let p = Placed::from(columns).0;
     if p < HALF8 + FEWEST {
         return FEWEST;
     }
@@ -116,6 +116,7 @@ fn share(gone: u64, columns: u64, span: u64) -> u64
         part: gone,
     };
     let mut left = columns;
+    // The columns are halved until no bit is left.
     while 0 < left {
         if left % 2 == 1 {
             sum = plus(sum, term, span);
@@ -126,7 +127,13 @@ fn share(gone: u64, columns: u64, span: u64) -> u64
     sum.whole
 }
 
-pub(crate) fn marker_of(start: Placed, end: Placed, columns: u64, marked: bool, at: Placed) -> u64
+pub(crate) fn marker_of(
+    start: Placed<u64>,
+    end: Placed<u64>,
+    columns: u64,
+    marked: bool,
+    at: Placed<u64>,
+) -> u64
     requires { columns ≤ most_columns }
     ensures { result ≡ marker_column start.0 end.0 columns marked at.0 }
 {

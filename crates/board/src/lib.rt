@@ -5,6 +5,3 @@ mod cells;
 mod grid;
 
 pub use cells::cells_answer;
-
-// Document 01's number.
-const TOO_MANY: u32 = 14;

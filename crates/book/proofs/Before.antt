@@ -2,7 +2,7 @@
 use mathlib.Core.Path.{◌≡◌, refl, sym, ap, ap₂, ◌∙◌}
 use mathlib.Core.Bool.{Bool, true, false, not, ◌&&◌, ◌||◌}
 use mathlib.Core.List.{List, [], ◌∷◌}
-use mathlib.Core.Option.{Option, none, some}
+use Rattle.std.specs.Prelude.{Option, None, Some}
 use Prim.Native.Nat.{ℕ, zero, suc, ◌+◌, ◌-◌, ◌≤◌, ◌<◌}
 use native.Mathlib.Omega.{arith}
 use borrow.Author.Tests.{lt-ltb, le-ltb, lt-leb, ne_eqb, ltb-false, leb-false, le-leb, eqb-true, not-false}
@@ -14,7 +14,7 @@ use mir.Syntax.{w64}
 use Rattle.wire.specs.Signs.{half, meant, turned}
 use Rattle.wire.proofs.Signs.{order_lt, meant_sum}
 use Rattle.book.specs.declared.judge.Seen.{Seen}
-use Rattle.zone.specs.Units.{day_ns, spacing}
+use Rattle.zone.specs.Units.{spacing}
 use Rattle.records.specs.Layout.{number, time, step, transition_instant, coverage_kind, transition_kind, rule_kind, event_kind, is_rule}
 use Rattle.records.specs.Limits.{base}
 use Rattle.records.specs.Records.{Coverage, Transition, Rule, Event, Record, coverage, transition, rule, event, coverage_at, transition_at, rule_at, event_at, record_at, kind_of}
@@ -24,15 +24,15 @@ use Rattle.book.specs.Private.{bad_item, bad_from, Room, seen, one_more}
 use Rattle.records.proofs.Tests.{or_false, outside_test}
 use Rattle.records.proofs.Frames.{Kind, one, two, three, four, kind_of_law, framed, few_items, is_one, is_two, is_three, is_four}
 use Rattle.book.proofs.Judging.{never_late, never_reversed, no_coverage}
-use Rattle.book.proofs.Items.{Looked, looked_none, looked_bad, looked_good, looked_time, looked_all, looked_falls, items_bad, items_fall, item_room}
+use Rattle.book.proofs.Items.{Looked, looked_none, looked_bad, looked_good, looked_all, looked_falls, items_bad, items_fall}
 use Rattle.records.proofs.Cascade.{all_passed, number_2, number_3, number_4, number_5, number_6, number_7, number_8, number_9}
 
 -- ---- the records before, as the code keeps them
 
 -- m is the earliest second that a transition may have, placed
 abbrev pub Least : Option ℤ → ℕ → Type 0
-Least none m = m ≡ 0
-Least (some z) m = (p : ℕ) × (z ≡ meant w64 p) × (m ≡ p + spacing)
+Least None m = m ≡ 0
+Least (Some z) m = (p : ℕ) × (z ≡ meant w64 p) × (m ≡ p + spacing)
 
 pub record Counts (t : Seen) (before : List Record) : Type 0 where
   pub coverages : t.coverages ≡ many coverage_kind before
@@ -129,8 +129,8 @@ module _ {t : Seen} {before : List Record} (c : Counts t before) where
 
 -- before the earliest second that it may have
 closer_by : (o : Option ℤ) (m p : ℕ) → Least o m → ltb p m ≡ closer o (meant w64 p)
-closer_by none m p e = ap (ltb p) e ∙ le-ltb p 0 (omega arith)
-closer_by (some z) m p (q, e, f) =
+closer_by None m p e = ap (ltb p) e ∙ le-ltb p 0 (omega arith)
+closer_by (Some z) m p (q, e, f) =
     ap (ltb p) f ∙ sym (order_lt w64 p (q + spacing)) ∙ ap (lt_z (meant w64 p)) (sym (ap (λ (i : ℤ). i +ℤ pos spacing) e ∙ meant_sum w64 q spacing))
 
 -- where a record begins, or the book ends
@@ -338,69 +338,71 @@ module _ {s : List ℕ} {at : ℕ} {t : Seen} {k : ℕ} (n : Known s at t k) whe
   pub many_3 : headless earlier r ≡ false → too_many base earlier r ≡ true → 3 ≡ refusal base s
   many_3 h2 e = by_number 3 (number_3 base earlier r h2 e) (omega arith)
 
-  -- ---- 4 to 9
+  -- ---- 4
 
   pub fields_4 : headless earlier r ≡ false → too_many base earlier r ≡ false → bad_fields base r ≡ true → 4 ≡ refusal base s
   fields_4 h2 h3 e = by_number 4 (number_4 base earlier r h2 h3 (ap (λ (b : Bool). b || bad_items r) e)) (omega arith)
 
--- ---- a record whose fields are right: i of its n points or times were looked at
+-- ---- a record whose fields are right
 
-pub record Looking (s : List ℕ) (at : ℕ) (t : Seen) (k n i item least : ℕ) (fell : Bool) : Type 0 where
+pub record Fine (s : List ℕ) (at : ℕ) (t : Seen) (k : ℕ) : Type 0 where
   pub known : Known s at t k
   pub headed : headless (earlier known) (r known) ≡ false
   pub few : too_many base (earlier known) (r known) ≡ false
   pub fields : bad_fields base (r known) ≡ false
+
+pub fine : {s : List ℕ} {at : ℕ} {t : Seen} {k : ℕ} (n : Known s at t k) → (eqb t.coverages 0 && not (eqb k coverage_kind)) ≡ false
+    → leb (most base k) (seen k t) ≡ false → bad_fields base (r n) ≡ false → Fine s at t k
+fine n h m f = record { known = n; headed = sym (headless_is n) ∙ h; few = sym (many_is n) ∙ m; fields = f }
+
+-- i of its n points or times were looked at
+pub record Looking (s : List ℕ) (at : ℕ) (t : Seen) (k n i item least : ℕ) (fell : Bool) : Type 0 where
+  pub fine : Fine s at t k
   pub many : n ≡ items_at s at
   pub looked : Looked s k at n i item least fell
 
 module _ {s : List ℕ} {at : ℕ} {t : Seen} {k n i item least : ℕ} {fell : Bool} (p : Looking s at t k n i item least fell) where
   abbrev kn : Known s at t k
-  kn = p.known
+  kn = p.fine.known
 
   items_bad_at : bad_from s k at n ≡ bad_items (r kn)
   items_bad_at = items_bad s at k n kn.frame kn.kind p.many
 
-  pub item_inside : i < n → item + ((time k).from + step k) ≤ length s
-  item_inside h = item_room s at k n kn.frame kn.kind p.many i item h p.looked.place
-
   pub items_4 : i < n → bad_item s k item ≡ true → 4 ≡ refusal base s
   items_4 h b =
-      by_number kn 4 (number_4 base (earlier kn) (r kn) p.headed p.few (ap₂ ◌||◌ p.fields (sym items_bad_at ∙ looked_bad p.looked h b))) (omega arith)
-
-  pub item_below : bad_item s k item ≡ false → number (time k) s item < day_ns
-  item_below b = looked_time p.looked b
+      by_number kn 4 (number_4 base (earlier kn) (r kn) p.fine.headed p.fine.few (ap₂ ◌||◌ p.fine.fields (sym items_bad_at ∙ looked_bad p.looked h b))) (omega arith)
 
   pub look_on : (a d : ℕ) → i < n → bad_item s k item ≡ false → a ≡ number (time k) s item → d ≡ step k
       → Looking s at t k n (i + 1) (item + d) (a + 1) (fell || ltb a least)
   look_on a d h b e q =
-      record { known = kn; headed = p.headed; few = p.few; fields = p.fields; many = p.many; looked = looked_good p.looked a d h b e q }
+      record { fine = p.fine; many = p.many; looked = looked_good p.looked a d h b e q }
 
   -- all of them
   module _ (h : n ≤ i) where
     within : outside base (r kn) ≡ false
-    within = ap₂ ◌||◌ p.fields (sym items_bad_at ∙ looked_all p.looked h)
+    within = ap₂ ◌||◌ p.fine.fields (sym items_bad_at ∙ looked_all p.looked h)
 
     pub falls_is : (fell && is_rule k) ≡ falling (r kn)
     falls_is = ap (λ (b : Bool). b && is_rule k) (sym (looked_falls p.looked h)) ∙ items_fall s at k n kn.frame kn.kind p.many
 
     pub late_5 : late_start (r kn) ≡ true → 5 ≡ refusal base s
-    late_5 e = by_number kn 5 (number_5 base (earlier kn) (r kn) p.headed p.few within e) (omega arith)
+    late_5 e = by_number kn 5 (number_5 base (earlier kn) (r kn) p.fine.headed p.fine.few within e) (omega arith)
 
     module _ (h5 : late_start (r kn) ≡ false) where
       pub falls_6 : (fell && is_rule k) ≡ true → 6 ≡ refusal base s
-      falls_6 e = by_number kn 6 (number_6 base (earlier kn) (r kn) p.headed p.few within h5 (sym falls_is ∙ e)) (omega arith)
+      falls_6 e = by_number kn 6 (number_6 base (earlier kn) (r kn) p.fine.headed p.fine.few within h5 (sym falls_is ∙ e)) (omega arith)
 
       module _ (h6 : (fell && is_rule k) ≡ false) where
         pub reversed_7 : reversed (r kn) ≡ true → 7 ≡ refusal base s
-        reversed_7 e = by_number kn 7 (number_7 base (earlier kn) (r kn) p.headed p.few within h5 (sym falls_is ∙ h6) e) (omega arith)
+        reversed_7 e = by_number kn 7 (number_7 base (earlier kn) (r kn) p.fine.headed p.fine.few within h5 (sym falls_is ∙ h6) e) (omega arith)
 
         module _ (h7 : reversed (r kn) ≡ false) where
           pub covers_8 : covers_nothing (r kn) ≡ true → 8 ≡ refusal base s
-          covers_8 e = by_number kn 8 (number_8 base (earlier kn) (r kn) p.headed p.few within h5 (sym falls_is ∙ h6) h7 e) (omega arith)
+          covers_8 e = by_number kn 8 (number_8 base (earlier kn) (r kn) p.fine.headed p.fine.few within h5 (sym falls_is ∙ h6) h7 e) (omega arith)
 
           module _ (h8 : covers_nothing (r kn) ≡ false) where
             close_9 : too_close (earlier kn) (r kn) ≡ true → 9 ≡ refusal base s
-            close_9 e = by_number kn 9 (number_9 base (earlier kn) (r kn) p.headed p.few within h5 (sym falls_is ∙ h6) h7 h8 e) (omega arith)
+            close_9 e = by_number kn 9 (number_9 base (earlier kn) (r kn) p.fine.headed p.fine.few within h5 (sym falls_is ∙ h6) h7 h8 e) (omega arith)
 
             -- every test is passed
             on_all : too_close (earlier kn) (r kn) ≡ false → (t' : Seen) → t' ≡ one_more s at t → (next : ℕ) → next ≡ next_at s at → Here s next t'
@@ -409,8 +411,8 @@ module _ {s : List ℕ} {at : ℕ} {t : Seen} {k n i item least : ℕ} {fell : B
                 (number_at_law kn 0
                 (all_passed base (earlier kn) (r kn)
                 (record {
-                  headed = p.headed;
-                  few = p.few;
+                  headed = p.fine.headed;
+                  few = p.fine.few;
                   fields = within;
                   prompt = h5;
                   rising = sym falls_is ∙ h6;
@@ -418,7 +420,7 @@ module _ {s : List ℕ} {at : ℕ} {t : Seen} {k n i item least : ℕ} {fell : B
                   covering = h8;
                   apart = h9;
                 })))
-                t' (counts_on kn p.headed p.few t' e) next to
+                t' (counts_on kn p.fine.headed p.fine.few t' e) next to
 
             -- no transition
             pub on_other : (k ≡ transition_kind → ⊥) → (t' : Seen) → t' ≡ one_more s at t → (next : ℕ) → next ≡ next_at s at → Here s next t'
@@ -426,11 +428,12 @@ module _ {s : List ℕ} {at : ℕ} {t : Seen} {k n i item least : ℕ} {fell : B
 
 -- ---- a transition: it has no points, and of the tests behind its fields only the last can fail
 
-module _ {s : List ℕ} {at : ℕ} {t : Seen} {k : ℕ} (n : Known s at t k) (i : k ≡ transition_kind) (h2 : headless (earlier n) (r n) ≡ false)
-    (h3 : too_many base (earlier n) (r n) ≡ false) (h4 : bad_fields base (r n) ≡ false) where
+module _ {s : List ℕ} {at : ℕ} {t : Seen} {k : ℕ} (p : Fine s at t k) (i : k ≡ transition_kind) where
+  abbrev n : Known s at t k
+  n = p.known
+
   abbrev looking : Looking s at t k 0 0 at 0 false
-  looking =
-      record { known = n; headed = h2; few = h3; fields = h4; many = few_items s at k n.frame n.kind (rw i); looked = looked_none s k at 0 }
+  looking = record { fine = p; many = few_items s at k n.frame n.kind (rw i); looked = looked_none s k at 0 }
 
   h5 : late_start (r n) ≡ false
   h5 = sym (never_late s at k n.frame n.kind (rw i))

@@ -6,18 +6,16 @@ use Prim.Native.Nat.{ℕ, zero, suc, ◌+◌, ◌*◌, ◌-◌, ◌≤◌, ◌<�
 use native.Mathlib.Nat.{suc-mul, sub-zero}
 use native.Mathlib.Numerals.{add-one}
 use native.Mathlib.Omega.{arith}
-use borrow.Author.Tests.{le-ltb, leb-false}
-use lib.ListN.{length}
+use borrow.Author.Tests.{le-ltb}
 use lib.Dec.{ltb, leb, leb-suc-suc}
 use Rattle.wire.proofs.Signs.{and_no}
-use Rattle.zone.specs.Units.{day_ns}
 use Rattle.records.specs.Layout.{number, count, time, step, rule_kind, event_kind, coverage_kind, transition_kind, is_rule, is_dated}
 use Rattle.records.specs.Records.{record_at, points_at, times_at}
 use Rattle.records.specs.Book.{kind_at, any, bad_time, bad_point, bad_items, falls_from, falls, falling}
 use Rattle.records.specs.Frame.{Framed, items_at}
 use Rattle.book.specs.Private.{bad_item, bad_from, falls_at}
-use Rattle.records.proofs.Tests.{or_false, or_no}
-use Rattle.records.proofs.Frames.{Kind, one, two, three, four, kind_of_law, few_items, room3, room4}
+use Rattle.records.proofs.Tests.{or_no}
+use Rattle.records.proofs.Frames.{Kind, one, two, three, four, kind_of_law, few_items}
 use Rattle.records.proofs.Frames.{is_one, is_two, is_three, is_four}
 
 -- ---- the tests of a list, as they are made along the bytes
@@ -88,9 +86,6 @@ module _ {s : List ℕ} {k at n i item least : ℕ} {fell : Bool} (l : Looked s 
             ∙ ap₂ (λ (x y : ℕ). (fell || ltb x least) || falls_at s k (x + 1) (item + y) (n - (i + 1))) (sym e) (sym q);
       }
 
-  pub looked_time : bad_item s k item ≡ false → number (time k) s item < day_ns
-  looked_time b = leb-false day_ns (number (time k) s item) (or_false (bad_time (number (time k) s item)) _ b).0
-
   -- all of them were looked at
   module _ (h : n ≤ i) where
     no_left : n - i ≡ 0
@@ -145,21 +140,3 @@ module _ (s : List ℕ) (at k n : ℕ) (f : Framed s at) (e : k ≡ kind_at s at
           ∙ falls_points s at (number (count rule_kind) s at)
           ∙ sym (ap falling (is_three s at k f e i))
       go (four i) = other event_kind i refl ∙ sym (ap falling (is_four s at k f e i))
-
-  -- there is room for the next
-  pub item_room : (i item : ℕ) → i < n → item ≡ at + i * step k → item + ((time k).from + step k) ≤ length s
-  item_room i item h p = go (kind_of_law s at k f e)
-    where
-      go : Kind k → item + ((time k).from + step k) ≤ length s
-      go (one j) = absurd (let z = none_of (rw j) in omega arith)
-      go (two j) = absurd (let z = none_of (rw j) in omega arith)
-      go (three j) =
-          let c = count_of k refl j in
-          let r = room3 s at k f e j in
-          let y : item ≡ at + i * step rule_kind = p ∙ ap (λ (m : ℕ). at + i * step m) j in
-          rw j (omega arith)
-      go (four j) =
-          let c = count_four j in
-          let r = room4 s at k f e j in
-          let y : item ≡ at + i * step event_kind = p ∙ ap (λ (m : ℕ). at + i * step m) j in
-          rw j (omega arith)

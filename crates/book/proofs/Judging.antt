@@ -2,25 +2,40 @@
 use mathlib.Core.Path.{◌≡◌, refl, sym, ap, ap₂, ◌∙◌}
 use mathlib.Core.Bool.{Bool, true, false, not, ◌&&◌, ◌||◌}
 use mathlib.Core.List.{List}
-use Prim.Native.Nat.{ℕ, zero, suc, ◌+◌, ◌≤◌}
+use Prim.Native.Nat.{ℕ, zero, suc, ◌+◌}
 use native.Mathlib.Omega.{arith}
 use borrow.Author.Tests.{eqb-true}
 use lib.ListN.{length}
 use lib.Dec.{ltb, leb, eqb}
-use mir.Syntax.{w32, w64}
+use Rattle.std.proofs.lemmas.Bool.Decides.{nat_tests}
+use mir.Syntax.{Width, w32, w64}
+use Rattle.std.specs.Prelude.{Some}
+use Rattle.std.specs.Ordering.{partial_lt, nat_cmp}
+use Rattle.wire.specs.declared.sign.Placed.{Placed}
 use Rattle.wire.specs.Fields.{field}
-use Rattle.wire.specs.Signs.{half, meant, turned}
+use Rattle.wire.specs.Signs.{half, meant, turned, signed}
 use Rattle.wire.proofs.Signs.{order_lt, order_le}
-use Rattle.zone.specs.Units.{day_ns}
-use Rattle.records.specs.Layout.{number, integer, tag, nanoseconds, count, time, phase, step, day_first, day_last, coverage_start, coverage_end, coverage_kind, rule_kind, event_kind, is_dated, rule_code, is_rule}
+use Rattle.records.specs.Layout.{number, integer, tag, nanoseconds, count, time, step, day_first, day_last, coverage_start, coverage_end, coverage_kind, rule_kind, event_kind, is_dated, is_rule}
 use Rattle.records.specs.Records.{rule, rule_at, record_at, published_at, points_at, times_at}
-use Rattle.records.specs.Book.{kind_at, bad_uncertainty, late, late_start, reversed, covers_nothing, last_phase, last_published, most_width}
-use Rattle.records.specs.Frame.{Framed, items_at}
-use Rattle.book.specs.Private.{bad_item}
-use Rattle.records.proofs.Tests.{or_no, outside_test, above_test}
-use Rattle.records.proofs.Frames.{Kind, one, two, three, four, kind_of_law, is_one, is_two, is_three, is_four, room3, room4, dated, undated}
+use Rattle.records.specs.Book.{inside, kind_at, bad_uncertainty, late, late_start, reversed, covers_nothing, last_published, most_width}
+use Rattle.records.specs.Frame.{Framed, items_at, placed_range}
+use Rattle.records.proofs.Tests.{outside_test, above_test}
+use Rattle.records.proofs.Frames.{Kind, one, two, three, four, kind_of_law, is_one, is_two, is_three, is_four, dated, undated}
 
 -- ---- 4: the parts of a test, as the code reads them
+
+-- outside a range: what the comparisons say
+pub outside_says : (low high : ℕ) (p : Placed ℕ) (r : Bool)
+    → r ≡ (partial_lt (λ (x y : ℕ). Some (nat_cmp x y)) p.0 low || partial_lt (λ (x y : ℕ). Some (nat_cmp x y)) high p.0)
+    → r ≡ (ltb p.0 low || ltb high p.0)
+outside_says low high p r e = grind (arith, nat_tests)
+
+-- and what they say of a two's-complement field that was read
+pub outside_read : (w : Width) (low high b : ℕ) (p : Placed ℕ) (r : Bool)
+    → r ≡ (partial_lt (λ (x y : ℕ). Some (nat_cmp x y)) p.0 low || partial_lt (λ (x y : ℕ). Some (nat_cmp x y)) high p.0)
+    → p ≡ record { 0 = turned w b } → r ≡ not (inside (placed_range w low high) (signed w b))
+outside_read w low high b p r e q =
+    outside_says low high p r e ∙ ap (λ (j : Placed ℕ). ltb j.0 low || ltb high j.0) q ∙ outside_test w low high (turned w b)
 
 -- the uncertainty of a tag, a placed number and a text
 uncertain : (tag p text : ℕ)
@@ -40,20 +55,6 @@ module _ (s : List ℕ) (at k : ℕ) where
       ∙ ap bad_uncertainty
       (ap₂ (λ (i j : ℕ). record { tag = i; nanoseconds = meant w64 j; text = c }) (q ∙ ap (λ (i : ℕ). field 1 s (at + i)) e) (r ∙ ap (λ (i : ℕ). turned w64 (field 8 s i)) y)
       ∙ ap (λ (i : ℕ). record { tag = number (tag k) s at; nanoseconds = integer w64 (nanoseconds k) s at; text = i }) (t ∙ ap (λ (i : ℕ). field 2 s i) z))
-
-  -- a point or a time
-  pub item_time_only : (t : ℕ) → is_rule k ≡ false → t ≡ number (time k) s at → leb day_ns t ≡ bad_item s k at
-  item_time_only t n q =
-      ap (leb day_ns) q ∙ sym (or_no (leb day_ns (number (time k) s at)))
-      ∙ ap (λ (b : Bool). leb day_ns (number (time k) s at) || (b && ltb last_phase (number (phase k) s at))) (sym n)
-
-  pub item_point : (t p r : ℕ) → is_rule k ≡ true → t ≡ number (time k) s at → p ≡ (time k).from → r ≡ field 1 s (at + p + 8)
-      → (leb day_ns t || ltb last_phase r) ≡ bad_item s k at
-  item_point t p r i q e u =
-      let z : at + p + 8 ≡ at + ((time k).from + 8) = omega arith in
-      let w : r ≡ number (phase k) s at = u ∙ ap (λ (j : ℕ). field 1 s j) z in
-      ap₂ (λ (x y : ℕ). leb day_ns x || ltb last_phase y) q w
-      ∙ ap (λ (b : Bool). leb day_ns (number (time k) s at) || (b && ltb last_phase (number (phase k) s at))) (sym i)
 
 -- so many points and times are read
 pub points_length : (s : List ℕ) (at n : ℕ) → length (points_at s at n) ≡ n
@@ -102,11 +103,6 @@ module _ (s : List ℕ) (at k : ℕ) (f : Framed s at) (e : k ≡ kind_at s at) 
         let r : t ≡ number (time rule_kind) s at = q ∙ ap (λ (j : ℕ). number (time j) s at) i in
         late_by (not (eqb t 0)) (rw r (late_points (number (count rule_kind) s at) (λ n. z (items_three ∙ n))))
 
-    pub time_room : (items_at s at ≡ 0 → ⊥) → at + ((time k).from + 8) ≤ length s
-    time_room z =
-        let n : (number (count rule_kind) s at ≡ 0 → ⊥) = λ q. z (items_three ∙ q) in
-        rw i (omega (arith, room3 s at k f e i))
-
   -- ---- 7
 
   pub never_reversed : is_dated k ≡ false → false ≡ reversed (record_at s at)
@@ -117,15 +113,6 @@ module _ (s : List ℕ) (at k : ℕ) (f : Framed s at) (e : k ≡ kind_at s at) 
       go (two i) = rw (is_two s at k f e i)
       go (three i) = absurd (omega (arith, undated s at k f e h))
       go (four i) = absurd (omega (arith, undated s at k f e h))
-
-  pub days_room : is_dated k ≡ true → at + rule_code.from ≤ length s
-  days_room h = go (kind_of_law s at k f e)
-    where
-      go : Kind k → at + rule_code.from ≤ length s
-      go (one i) = absurd (omega (arith, dated s at k f e h))
-      go (two i) = absurd (omega (arith, dated s at k f e h))
-      go (three i) = omega (arith, room3 s at k f e i)
-      go (four i) = omega (arith, room4 s at k f e i)
 
   pub reversed_by : is_dated k ≡ true → ltb (turned w32 (number day_last s at)) (turned w32 (number day_first s at)) ≡ reversed (record_at s at)
   reversed_by h = sym (order_lt w32 (turned w32 (number day_last s at)) (turned w32 (number day_first s at))) ∙ go (kind_of_law s at k f e)

@@ -1,18 +1,18 @@
 // The tests of one record, each for a line of document 01's table of numbers.
-ghost use Rattle.std.specs.Prelude.{◌+◌, ◌*◌, ◌≤◌, ◌<◌, ◌≡◌, not, ltb, leb, length};
+ghost use Rattle.std.specs.Prelude.{◌+◌, ◌≤◌, ◌<◌, ◌≡◌, ◌||◌, ltb, leb, length};
+ghost use Rattle.std.specs.Ordering.{partial_lt};
 ghost use Rattle.std.specs.Int.{w32, w64};
 ghost use Rattle.wire.specs.Fields.{Inside, field};
-ghost use Rattle.wire.specs.Signs.{turned, signed};
+ghost use Rattle.wire.specs.Signs.{turned};
 ghost use Rattle.records.specs.Layout.{number, integer, count, time, step, transition_instant, day_first, day_last, rule_code, rule_kind, event_kind, coverage_size, transition_size};
 ghost use Rattle.records.specs.Limits.{base};
 ghost use Rattle.records.specs.Records.{coverage, transition, rule, event, record_at, coverage_at, transition_at, rule_at, event_at, published_at};
-ghost use Rattle.records.specs.Book.{kind_at, bad_frame, bad_fields, bad_uncertainty, bad_days, inside, most, late_start, reversed, covers_nothing};
+ghost use Rattle.records.specs.Book.{kind_at, bad_frame, bad_fields, bad_uncertainty, bad_days, most, late_start, reversed, covers_nothing};
 ghost use Rattle.records.specs.Frame.{Framed, items_at};
-ghost use Rattle.records.specs.Frame.{placed_range};
 ghost use Rattle.book.specs.Private.{Room, bad_item, seen, one_more};
 
 use records::*;
-use wire::{get1, get2, get8, signed4, signed8};
+use wire::{Field, Placed};
 use zone::{DAY_NS, SPACING};
 
 // The records seen so far: how many of each kind, and the earliest second that the next transition may have, placed.
@@ -25,27 +25,18 @@ pub(crate) struct Seen {
     pub least: u64,
 }
 
-fn outside4(book: &[u8], p: usize, low: u32, high: u32) -> bool
-    requires { Inside p 4 book.now }
-    ensures { result ≡ not (inside (placed_range w32 low high) (signed w32 (field 4 book.now p))) }
+// Whether the number of a two's-complement field, of 4 bytes or of 8, lies outside a range of such numbers.
+fn outside<T: PartialOrd + Copy>(x: Placed<T>, low: T, high: T) -> bool
+    ensures { result ≡ (partial_lt T.partial_cmp x.0 low || partial_lt T.partial_cmp high x.0) }
 {
-    let x = signed4(book, p).0;
-    (x < low) | (high < x)
-}
-
-fn outside8(book: &[u8], p: usize, low: u64, high: u64) -> bool
-    requires { Inside p 8 book.now }
-    ensures { result ≡ not (inside (placed_range w64 low high) (signed w64 (field 8 book.now p))) }
-{
-    let x = signed8(book, p).0;
-    (x < low) | (high < x)
+    (x.0 < low) | (high < x.0)
 }
 
 // A byte, 0 past the end.
 fn byte_or_0(book: &[u8], p: usize) -> u8
     ensures { result ≡ field 1 book.now p }
 {
-    if p < book.len() { get1(book, p) } else { 0 }
+    if p < book.len() { u8::get(book, p) } else { 0 }
 }
 
 // 2: a length that is wrong or runs past the end, an unknown kind.
@@ -56,11 +47,11 @@ pub(crate) fn bad_frame(book: &[u8], at: usize) -> bool
     if book.len() < at + HEAD {
         return true;
     }
-    let size = get2(book, at) as usize;
+    let size = u16::get(book, at) as usize;
     if book.len() < at + 2 + size {
         return true;
     }
-    let kind = get2(book, at + KIND);
+    let kind = u16::get(book, at + KIND);
     match kind {
         COVERAGE => 2 + size != COVERAGE_SIZE,
         TRANSITION => 2 + size != TRANSITION_SIZE,
@@ -93,25 +84,30 @@ fn bad_coverage(book: &[u8], at: usize) -> bool
     requires { Inside at coverage_size book.now }
     ensures { result ≡ bad_fields base (coverage (coverage_at book.now at)) }
 {
-    outside8(book, at + COVERAGE_START, INSTANTS_LOW, INSTANTS_HIGH)
-        | outside8(book, at + COVERAGE_END, INSTANTS_LOW, INSTANTS_HIGH)
-        | outside4(book, at + COVERAGE_OFFSET, OFFSETS_LOW, OFFSETS_HIGH)
+    let start = Placed::<u64>::get(book, at + COVERAGE_START);
+    let end = Placed::<u64>::get(book, at + COVERAGE_END);
+    let offset = Placed::<u32>::get(book, at + COVERAGE_OFFSET);
+    outside(start, INSTANTS_LOW, INSTANTS_HIGH)
+        | outside(end, INSTANTS_LOW, INSTANTS_HIGH)
+        | outside(offset, OFFSETS_LOW, OFFSETS_HIGH)
 }
 
 fn bad_transition(book: &[u8], at: usize) -> bool
     requires { Inside at transition_size book.now }
     ensures { result ≡ bad_fields base (transition (transition_at book.now at)) }
 {
-    outside8(book, at + TRANSITION_INSTANT, SECONDS_LOW, SECONDS_HIGH)
-        | outside4(book, at + TRANSITION_OFFSET, OFFSETS_LOW, OFFSETS_HIGH)
+    let instant = Placed::<u64>::get(book, at + TRANSITION_INSTANT);
+    let offset = Placed::<u32>::get(book, at + TRANSITION_OFFSET);
+    outside(instant, SECONDS_LOW, SECONDS_HIGH) | outside(offset, OFFSETS_LOW, OFFSETS_HIGH)
 }
 
 fn bad_days(book: &[u8], at: usize) -> bool
     requires { Inside at rule_code.from book.now }
     ensures { result ≡ bad_days (integer w32 day_first book.now at) (integer w32 day_last book.now at) }
 {
-    outside4(book, at + DAY_FIRST, DAYS_LOW, DAYS_HIGH)
-        | outside4(book, at + DAY_LAST, DAYS_LOW, DAYS_HIGH)
+    let first = Placed::<u32>::get(book, at + DAY_FIRST);
+    let last = Placed::<u32>::get(book, at + DAY_LAST);
+    outside(first, DAYS_LOW, DAYS_HIGH) | outside(last, DAYS_LOW, DAYS_HIGH)
 }
 
 fn bad_uncertainty(book: &[u8], at: usize, kind: u16) -> bool
@@ -119,21 +115,21 @@ fn bad_uncertainty(book: &[u8], at: usize, kind: u16) -> bool
     ensures { result ≡ bad_uncertainty (published_at kind book.now at) }
 {
     let p = at + tag_place(kind);
-    let tag = get1(book, p);
-    let nanoseconds = signed8(book, p + NANOSECONDS).0;
-    let text = get2(book, p + TEXT);
-    ((LAST_PUBLISHED < tag) | ((nanoseconds < WIDTHS_LOW) | (WIDTHS_HIGH < nanoseconds)))
-        | ((((tag == 0) | (tag == 3)) & (WIDTHS_LOW < nanoseconds)) | ((tag < 2) & (text != 0)))
+    let tag = u8::get(book, p);
+    let nanoseconds = Placed::<u64>::get(book, p + NANOSECONDS);
+    let text = u16::get(book, p + TEXT);
+    ((LAST_PUBLISHED < tag) | outside(nanoseconds, WIDTHS_LOW, WIDTHS_HIGH))
+        | ((((tag == 0) | (tag == 3)) & (WIDTHS_LOW < nanoseconds.0)) | ((tag < 2) & (text != 0)))
 }
 
 fn bad_rule(book: &[u8], at: usize) -> bool
     requires { Inside at (time rule_kind).from book.now }
     ensures { result ≡ bad_fields base (rule (rule_at book.now at)) }
 {
-    let code = get1(book, at + RULE_CODE);
-    let mask = get1(book, at + RULE_MASK);
-    let label = get2(book, at + RULE_LABEL);
-    let n = get1(book, at + count_place(RULE));
+    let code = u8::get(book, at + RULE_CODE);
+    let mask = u8::get(book, at + RULE_MASK);
+    let label = u16::get(book, at + RULE_LABEL);
+    let n = u8::get(book, at + count_place(RULE));
     (bad_days(book, at) | (LAST_CODE < code) | (LAST_MASK < mask))
         | (((code == 0) & (label != 0))
             | (!(code == 0) & (mask != 0))
@@ -145,7 +141,7 @@ fn bad_event(book: &[u8], at: usize) -> bool
     requires { Inside at (time event_kind).from book.now }
     ensures { result ≡ bad_fields base (event (event_at book.now at)) }
 {
-    let n = get1(book, at + count_place(EVENT));
+    let n = u8::get(book, at + count_place(EVENT));
     bad_days(book, at) | bad_uncertainty(book, at, EVENT) | (MOST_TIMES < n)
 }
 
@@ -169,7 +165,7 @@ pub(crate) fn items(book: &[u8], at: usize, kind: u16) -> u8
     if !is_dated(kind) {
         return 0;
     }
-    get1(book, at + count_place(kind))
+    u8::get(book, at + count_place(kind))
 }
 
 // A point or a time, read from `at` on: its time, and 4.
@@ -177,7 +173,7 @@ pub(crate) fn item_time(book: &[u8], at: usize, kind: u16) -> u64
     requires { Inside at ((time kind).from + 8) book.now }
     ensures { result ≡ number (time kind) book.now at }
 {
-    get8(book, at + time_place(kind))
+    u64::get(book, at + time_place(kind))
 }
 
 pub(crate) fn bad_item(book: &[u8], at: usize, kind: u16) -> bool
@@ -188,7 +184,7 @@ pub(crate) fn bad_item(book: &[u8], at: usize, kind: u16) -> bool
     if !is_rule(kind) {
         return DAY_NS <= time;
     }
-    (DAY_NS <= time) | (LAST_PHASE < get1(book, at + time_place(kind) + PHASE))
+    (DAY_NS <= time) | (LAST_PHASE < u8::get(book, at + time_place(kind) + PHASE))
 }
 
 // 5: a rule's first point not 00:00, or no point.
@@ -213,7 +209,7 @@ pub(crate) fn is_reversed(book: &[u8], at: usize, kind: u16) -> bool
     if !is_dated(kind) {
         return false;
     }
-    signed4(book, at + DAY_LAST).0 < signed4(book, at + DAY_FIRST).0
+    Placed::<u32>::get(book, at + DAY_LAST).0 < Placed::<u32>::get(book, at + DAY_FIRST).0
 }
 
 // 8: coverage end not after start.
@@ -224,7 +220,7 @@ pub(crate) fn covers_nothing(book: &[u8], at: usize, kind: u16) -> bool
     if kind != COVERAGE {
         return false;
     }
-    signed8(book, at + COVERAGE_END).0 <= signed8(book, at + COVERAGE_START).0
+    Placed::<u64>::get(book, at + COVERAGE_END).0 <= Placed::<u64>::get(book, at + COVERAGE_START).0
 }
 
 // 9: a transition before the earliest second that it may have.
@@ -232,7 +228,7 @@ pub(crate) fn too_close(book: &[u8], at: usize, least: u64) -> bool
     requires { Inside at transition_size book.now }
     ensures { result ≡ ltb (turned w64 (number transition_instant book.now at)) least }
 {
-    signed8(book, at + TRANSITION_INSTANT).0 < least
+    Placed::<u64>::get(book, at + TRANSITION_INSTANT).0 < least
 }
 
 // One more record seen.
@@ -243,31 +239,20 @@ pub(crate) fn one_more(t: Seen, book: &[u8], at: usize, kind: u16) -> Seen
     match kind {
         COVERAGE => Seen {
             coverages: t.coverages + 1,
-            transitions: t.transitions,
-            rules: t.rules,
-            events: t.events,
-            least: t.least,
+            ..t
         },
         TRANSITION => Seen {
-            coverages: t.coverages,
             transitions: t.transitions + 1,
-            rules: t.rules,
-            events: t.events,
-            least: signed8(book, at + TRANSITION_INSTANT).0 + SPACING,
+            least: Placed::<u64>::get(book, at + TRANSITION_INSTANT).0 + SPACING,
+            ..t
         },
         RULE => Seen {
-            coverages: t.coverages,
-            transitions: t.transitions,
             rules: t.rules + 1,
-            events: t.events,
-            least: t.least,
+            ..t
         },
         _ => Seen {
-            coverages: t.coverages,
-            transitions: t.transitions,
-            rules: t.rules,
             events: t.events + 1,
-            least: t.least,
+            ..t
         },
     }
 }

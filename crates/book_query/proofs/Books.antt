@@ -2,32 +2,28 @@
 use mathlib.Core.Path.{◌≡◌, refl, sym, ap, ap₂, ◌∙◌}
 use mathlib.Core.Bool.{Bool, cond}
 use mathlib.Core.List.{List}
-use mathlib.Core.Option.{none}
+use Rattle.std.specs.Prelude.{Option, None, Some, Result, Ok, Err}
 use Prim.Native.Nat.{ℕ}
-use native.Mathlib.Omega.{arith}
 use borrow.Author.Tests.{eq-eqb, ne_eqb}
 use lib.IntN.{ℤ}
 use mir.Syntax.{w64}
 use mir.Val.{SFits, of_z, to_z}
 use mir.ValLaws.{to_z-of_z}
 use Rattle.zone.specs.declared.Instant.{Instant}
+use Rattle.zone.specs.declared.Interval.{Interval}
 use Rattle.records.specs.Limits.{base}
 use Rattle.records.specs.Book.{refusal, records}
-use Rattle.venue.specs.Opening.{coverage_of, opened, number_opened}
+use Rattle.venue.specs.Opening.{coverage_of, opened}
 use Rattle.venue.specs.declared.opened.Header.{Header}
-use Rattle.venue.specs.declared.opened.Opened.{Opened}
 use Rattle.venue.proofs.Known.{opened_refused, opened_empty, opened_venue, Known}
 use Rattle.query.specs.Judging.{window_refusal, window_of}
-use Rattle.book_query.specs.declared.Judged.{Judged}
-use Rattle.query.specs.declared.Window.{Window}
-use Rattle.query.specs.declared.Window.TheVariants.{Refused, Between}
 use Rattle.query.proofs.Windows.{Windowed, window_between, window_refused}
-use Rattle.book_query.specs.Judging.{window_number, judged_by, number_judged}
+use Rattle.book_query.specs.Judging.{window_number, judged_by}
 
 -- a venue without data, and a window that passes
 pub record Blanked (s : List ℕ) (m n : ℤ) (a b : Instant) : Type 0 where
   pub passed : window_number s m n ≡ 0
-  pub uncovered : coverage_of (records s) ≡ none
+  pub uncovered : coverage_of (records s) ≡ None
   pub window : Windowed m n a b
 
 -- a venue, and a window that passes
@@ -36,23 +32,20 @@ pub record Named (s : List ℕ) (m n : ℤ) (h : Header) (a b : Instant) : Type 
   pub known : Known s h
   pub window : Windowed m n a b
 
--- ---- answers apart
+-- ---- the answers
 
-abbrev case_of : Judged → ℕ
-case_of (Judged.Refused k) = 0
-case_of (Judged.Blank a b) = 1
-case_of (Judged.Venue h a b) = 2
+abbrev Opened : Type 0
+Opened = Result (Option Header) ℕ
 
--- the number, by what opening answered, whatever it was
-pub judged_number : (m n : ℤ) (o : Opened) → number_judged (judged_by o (window_of m n)) ≡ number_opened o (window_refusal m n)
-judged_number m n o = go o (window_of m n) refl
-  where
-    go : (o : Opened) (w : Window) → w ≡ window_of m n → number_judged (judged_by o w) ≡ number_opened o (window_refusal m n)
-    go (Opened.Refused k) w e = refl
-    go Opened.Empty (Refused k) e = (window_refused m n e).0
-    go Opened.Empty (Between a b) e = sym (window_between m n e).passed
-    go (Opened.Venue h) (Refused k) e = (window_refused m n e).0
-    go (Opened.Venue h) (Between a b) e = sym (window_between m n e).passed
+abbrev Window : Type 0
+Window = Result Interval ℕ
+
+abbrev Judged : Type 0
+Judged = Result (Option Header × Interval) ℕ
+
+abbrev number_judged : Judged → ℕ
+number_judged (Err n) = n
+number_judged (Ok j) = 0
 
 module _ (s : List ℕ) (m n : ℤ) where
   -- ---- the number
@@ -72,47 +65,47 @@ module _ (s : List ℕ) (m n : ℤ) where
       → j ≡ judged_by (opened s) (window_of m n)
   judged_as x y e f = f ∙ ap₂ judged_by e (ap₂ window_of (to_z-of_z w64 m x) (to_z-of_z w64 n y))
 
-  pub judged_refused : {k : ℕ} → Judged.Refused k ≡ judged_by (opened s) (window_of m n) → (k ≡ window_number s m n) × (k ≡ 0 → ⊥)
+  pub judged_refused : {k : ℕ} → Err k ≡ judged_by (opened s) (window_of m n) → (k ≡ window_number s m n) × (k ≡ 0 → ⊥)
   judged_refused {k} e = go (opened s) refl (window_of m n) refl e
     where
-      window : refusal base s ≡ 0 → (x : ℕ) → Refused x ≡ window_of m n → k ≡ x → (k ≡ window_number s m n) × (k ≡ 0 → ⊥)
+      window : refusal base s ≡ 0 → (x : ℕ) → Err x ≡ window_of m n → k ≡ x → (k ≡ window_number s m n) × (k ≡ 0 → ⊥)
       window z x j q = let r = window_refused m n j in (q ∙ r.0 ∙ of_window z, λ y. r.1 (sym q ∙ y))
 
-      go : (o : Opened) → o ≡ opened s → (w : Window) → w ≡ window_of m n → Judged.Refused k ≡ judged_by o w → (k ≡ window_number s m n) × (k ≡ 0 → ⊥)
-      go (Opened.Refused x) i w j q =
+      go : (o : Opened) → o ≡ opened s → (w : Window) → w ≡ window_of m n → ◌≡◌ {A = Judged} (Err k) (judged_by o w)
+          → (k ≡ window_number s m n) × (k ≡ 0 → ⊥)
+      go (Err x) i w j q =
           let r = opened_refused s x i in
           let p : k ≡ x = ap number_judged q in
           (p ∙ r.0 ∙ of_book r.1, λ y. r.1 (sym r.0 ∙ sym p ∙ y))
-      go Opened.Empty i (Refused x) j q = window (opened_empty s i).0 x j (ap number_judged q)
-      go Opened.Empty i (Between a b) j q = absurd (let y = ap case_of q in omega arith)
-      go (Opened.Venue h) i (Refused x) j q = window (opened_venue s h i).accepted x j (ap number_judged q)
-      go (Opened.Venue h) i (Between a b) j q = absurd (let y = ap case_of q in omega arith)
+      go (Ok None) i (Err x) j q = window (opened_empty s i).0 x j (ap number_judged q)
+      go (Ok (Some h)) i (Err x) j q = window (opened_venue s h i).accepted x j (ap number_judged q)
+      go (Ok h) i (Ok w) j q = absurd (cc)
 
-  pub judged_blank : {a b : Instant} → Judged.Blank a b ≡ judged_by (opened s) (window_of m n) → Blanked s m n a b
-  judged_blank {a} {b} e = go (opened s) refl (window_of m n) refl e
+  pub judged_blank : {w : Interval} → Ok (None, w) ≡ judged_by (opened s) (window_of m n) → Blanked s m n w.start w.end
+  judged_blank {w} e = go (opened s) refl (window_of m n) refl e
     where
-      go : (o : Opened) → o ≡ opened s → (w : Window) → w ≡ window_of m n → Judged.Blank a b ≡ judged_by o w → Blanked s m n a b
-      go (Opened.Refused x) i w j q = absurd (let y = ap case_of q in omega arith)
-      go Opened.Empty i (Refused x) j q = absurd (let y = ap case_of q in omega arith)
-      go Opened.Empty i (Between c d) j q =
-          let r = opened_empty s i in
-          let f : Between a b ≡ window_of m n = cc in
-          let w = window_between m n f in
-          record { passed = sym (of_window r.0) ∙ w.passed; uncovered = r.1; window = w }
-      go (Opened.Venue h) i (Refused x) j q = absurd (let y = ap case_of q in omega arith)
-      go (Opened.Venue h) i (Between c d) j q = absurd (let y = ap case_of q in omega arith)
+      go : (o : Opened) → o ≡ opened s → (x : Window) → x ≡ window_of m n → ◌≡◌ {A = Judged} (Ok (None, w)) (judged_by o x) → Blanked s m n w.start w.end
+      go (Err k) i x j q = absurd (cc)
+      go (Ok h) i (Err k) j q = absurd (cc)
+      go (Ok h) i (Ok x) j q =
+          let both : ◌≡◌ {A = Option Header × Interval} (None, w) (h, x) = cc in
+          let e : Ok None ≡ opened s = ap (λ (y : Option Header × Interval). Ok y.0) both ∙ i in
+          let f : Ok w ≡ window_of m n = ap (λ (y : Option Header × Interval). Ok y.1) both ∙ j in
+          let r = opened_empty s e in
+          let k = window_between m n f in
+          record { passed = sym (of_window r.0) ∙ k.passed; uncovered = r.1; window = k }
 
-  pub judged_venue : {h : Header} {a b : Instant} → Judged.Venue h a b ≡ judged_by (opened s) (window_of m n) → Named s m n h a b
-  judged_venue {h} {a} {b} e = go (opened s) refl (window_of m n) refl e
+  pub judged_venue : {h : Header} {w : Interval} → Ok (Some h, w) ≡ judged_by (opened s) (window_of m n) → Named s m n h w.start w.end
+  judged_venue {h} {w} e = go (opened s) refl (window_of m n) refl e
     where
-      go : (o : Opened) → o ≡ opened s → (w : Window) → w ≡ window_of m n → Judged.Venue h a b ≡ judged_by o w → Named s m n h a b
-      go (Opened.Refused x) i w j q = absurd (let y = ap case_of q in omega arith)
-      go Opened.Empty i (Refused x) j q = absurd (let y = ap case_of q in omega arith)
-      go Opened.Empty i (Between c d) j q = absurd (let y = ap case_of q in omega arith)
-      go (Opened.Venue g) i (Refused x) j q = absurd (let y = ap case_of q in omega arith)
-      go (Opened.Venue g) i (Between c d) j q =
-          let e : Opened.Venue h ≡ opened s = cc in
-          let f : Between a b ≡ window_of m n = cc in
-          let k = opened_venue s h e in
-          let w = window_between m n f in
-          record { passed = sym (of_window k.accepted) ∙ w.passed; known = k; window = w }
+      go : (o : Opened) → o ≡ opened s → (x : Window) → x ≡ window_of m n → ◌≡◌ {A = Judged} (Ok (Some h, w)) (judged_by o x)
+          → Named s m n h w.start w.end
+      go (Err k) i x j q = absurd (cc)
+      go (Ok g) i (Err k) j q = absurd (cc)
+      go (Ok g) i (Ok x) j q =
+          let both : ◌≡◌ {A = Option Header × Interval} (Some h, w) (g, x) = cc in
+          let e : Ok (Some h) ≡ opened s = ap (λ (y : Option Header × Interval). Ok y.0) both ∙ i in
+          let f : Ok w ≡ window_of m n = ap (λ (y : Option Header × Interval). Ok y.1) both ∙ j in
+          let r = opened_venue s h e in
+          let k = window_between m n f in
+          record { passed = sym (of_window r.accepted) ∙ k.passed; known = r; window = k }

@@ -2,34 +2,26 @@
 #![tactic(auto)]
 
 ghost use Rattle.std.specs.Prelude.{◌≡◌};
+ghost use Rattle.lend.specs.Refusals.{number_of, numbered};
 ghost use Rattle.venue.specs.Opening.{number_opened};
 ghost use Rattle.query.specs.Judging.{window_refusal, window_of};
-ghost use Rattle.book_query.specs.Judging.{number_judged, judged_by};
+ghost use Rattle.book_query.specs.Judging.{judged_by};
 
-use query::{Window, asked_window};
-use venue::{Header, Opened};
-use zone::Instant;
+use lend::Refusal;
+use query::asked_window;
+use venue::Header;
+use zone::Interval;
 
-// By what opening the book answered: a number refuses one of the two, or the book is a venue without data, or it names one.
-#[derive(Clone, Copy)]
-pub enum Judged {
-    Refused(u32),
-    Blank(Instant, Instant),
-    Venue(Header, Instant, Instant),
-}
-
-pub fn judged_window(opened: Opened, start: i64, end: i64) -> Judged
-    ensures { (number_judged result ≡ number_opened opened (window_refusal start end)) × (result ≡ judged_by opened (window_of start end)) }
+// By what opening the book answered: the book's refusal, else the window's; else the header, if the book names a venue, and the window.
+pub fn judged_window(
+    opened: Result<Option<Header>, Refusal>,
+    start: i64,
+    end: i64,
+) -> Result<(Option<Header>, Interval), Refusal>
+    ensures { (number_of result ≡ number_opened (numbered opened) (window_refusal start end))
+        × (numbered result ≡ judged_by (numbered opened) (window_of start end)) }
 {
-    match opened {
-        Opened::Refused(n) => Judged::Refused(n),
-        Opened::Empty => match asked_window(start, end) {
-            Window::Refused(n) => Judged::Refused(n),
-            Window::Between(a, b) => Judged::Blank(a, b),
-        },
-        Opened::Venue(h) => match asked_window(start, end) {
-            Window::Refused(n) => Judged::Refused(n),
-            Window::Between(a, b) => Judged::Venue(h, a, b),
-        },
-    }
+    let header = opened?;
+    let window = asked_window(start, end)?;
+    Ok((header, window))
 }

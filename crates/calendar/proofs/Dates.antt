@@ -1,7 +1,7 @@
 -- Dates and the Days and day numbers of them. Assumes nothing.
 use mathlib.Core.Path.{◌≡◌, refl, sym, ap, subst, ◌∙◌}
 use mathlib.Core.Bool.{Bool, true, false}
-use mathlib.Core.Option.{none, some}
+use Rattle.std.specs.Prelude.{None, Some}
 use Prim.Native.Nat.{ℕ, zero, suc, ◌+◌, ◌-◌, ◌≤◌, ◌<◌}
 use native.Mathlib.Decide.{dec_le}
 use native.Mathlib.Omega.{arith}
@@ -83,22 +83,22 @@ pub day_means : (y m d : ℕ) → meaning (day_on y m d) ≡ number y m d
 unfolding number
 day_means y m d = ap (λ (e : ℕ). sub_ℕ (day_on y m d) (e + first_day)) (sym epoch) ∙ shifted first_day (elapsed y m d) (elapsed 1970 1 1)
 
-pub has_number : (y m d : ℕ) → Valid y m d → day_number y m d ≡ some (meaning (day_on y m d))
+pub has_number : (y m d : ℕ) → Valid y m d → day_number y m d ≡ Some (meaning (day_on y m d))
 unfolding day_number
-has_number y m d v = rw (is_date_law y m d v) (ap some (sym (day_means y m d)))
+has_number y m d v = rw (is_date_law y m d v) (ap Some (sym (day_means y m d)))
 
-pub has_none : (y m d : ℕ) → (Valid y m d → ⊥) → day_number y m d ≡ none
+pub has_none : (y m d : ℕ) → (Valid y m d → ⊥) → day_number y m d ≡ None
 unfolding day_number
 has_none y m d f = rw (no_date y m d f)
 
 -- the date with a number is one
-pub numbered_date : (y m d : ℕ) (n : ℤ) → day_number y m d ≡ some n → Valid y m d × (meaning (day_on y m d) ≡ n)
+pub numbered_date : (y m d : ℕ) (n : ℤ) → day_number y m d ≡ Some n → Valid y m d × (meaning (day_on y m d) ≡ n)
 unfolding day_number
 numbered_date y m d n e = go (is_date y m d) refl
   where
     go : (b : Bool) → is_date y m d ≡ b → Valid y m d × (meaning (day_on y m d) ≡ n)
     go true i = let v = valid y m d i in let h = has_number y m d v in (v, cc)
-    go false i = absurd (let h : none ≡ some n = rw i at e in let z : ◌≡◌ {A = ℕ} 0 1 = cc in omega arith)
+    go false i = absurd (let h : None ≡ Some n = rw i at e in let z : ◌≡◌ {A = ℕ} 0 1 = cc in omega arith)
 
 -- two Days that mean the same are one
 pub meaning_once : (a b : ℕ) → meaning a ≡ meaning b → a ≡ b
@@ -158,23 +158,23 @@ day_zero = origin w32 zero_day (lit≤ tt)
 pub day_placed : (d : ℕ) → meaning d ≡ meant w32 (d + day_zero)
 day_placed d = counted w32 zero_day (lit≤ tt) d
 
-pub within_yes : (p : ℕ) → first_day + day_zero ≤ p → p ≤ last_day + day_zero → within (meant w32 p) ≡ some (meant w32 p)
+pub within_yes : (p : ℕ) → first_day + day_zero ≤ p → p ≤ last_day + day_zero → within (meant w32 p) ≡ Some (meant w32 p)
 within_yes p a b = between_yes w32 zero_day (lit≤ tt) first_day last_day p a b
 
-pub within_low : (p : ℕ) → p < first_day + day_zero → within (meant w32 p) ≡ none
+pub within_low : (p : ℕ) → p < first_day + day_zero → within (meant w32 p) ≡ None
 within_low p h = between_low w32 zero_day (lit≤ tt) first_day last_day p h
 
-pub within_high : (p : ℕ) → last_day + day_zero < p → within (meant w32 p) ≡ none
+pub within_high : (p : ℕ) → last_day + day_zero < p → within (meant w32 p) ≡ None
 within_high p h = between_high w32 zero_day (lit≤ tt) first_day last_day p h
 
 -- a Day that was found for a day number means it, and is one of the calendar
-pub within_day : (d : ℕ) (n : ℤ) → some (meaning d) ≡ within n → (meaning d ≡ n) × (first_day ≤ d) × (d ≤ last_day)
+pub within_day : (d : ℕ) (n : ℤ) → Some (meaning d) ≡ within n → (meaning d ≡ n) × (first_day ≤ d) × (d ≤ last_day)
 within_day d n e = between_found w32 zero_day (lit≤ tt) first_day last_day d n e
 
 -- a date's day number is one of the domain
-pub date_within : (y m d : ℕ) (n : ℤ) → day_number y m d ≡ some n → within n ≡ some n
+pub date_within : (y m d : ℕ) (n : ℤ) → day_number y m d ≡ Some n → within n ≡ Some n
 date_within y m d n e =
     let known = numbered_date y m d n e in
     let p = day_on y m d + day_zero in
     let is : meant w32 p ≡ n = sym (day_placed (day_on y m d)) ∙ known.1 in
-    subst (λ (k : ℤ). within k ≡ some k) is (within_yes p (omega arith) (omega (arith, in_calendar y m d known.0)))
+    subst (λ (k : ℤ). within k ≡ Some k) is (within_yes p (omega arith) (omega (arith, in_calendar y m d known.0)))

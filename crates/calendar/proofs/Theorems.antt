@@ -3,7 +3,7 @@
 use mathlib.Core.Path.{◌≡◌, refl, sym, ap, ◌∙◌}
 use mathlib.Core.Bool.{Bool, true, false, cond, ◌&&◌}
 use mathlib.Core.List.{List, [], ◌∷◌}
-use mathlib.Core.Option.{none, some}
+use Rattle.std.specs.Prelude.{Option, None, Some}
 use Prim.Native.Nat.{ℕ, zero, suc, ◌+◌, ◌-◌, ◌%◌, ◌≤◌, ◌<◌}
 use native.Mathlib.Nat.{le_of_suc-le-suc, not-suc-le-zero}
 use native.Mathlib.Decide.{dec_le}
@@ -17,14 +17,9 @@ use Rattle.wire.proofs.Signs.{and_true}
 use lib.ListN.{length, get_or}
 use mir.Facts.{and_yes}
 use Rattle.calendar.specs.Gregorian.{first_year, last_year, total, leap, year_days, months, month_days, elapsed, number, day_number, Civil, next_date}
-use Rattle.calendar.specs.Answers.{first_day, last_day, zero_day, meaning, within, numbered, found, DateOf, weekday_of}
+use Rattle.calendar.specs.Answers.{first_day, last_day, zero_day, meaning, within, found, DateOf, weekday_of}
+use Rattle.calendar.specs.declared.Day.{Day}
 use Rattle.calendar.specs.declared.Date.{Date}
-use Rattle.calendar.specs.declared.Numbered.{Numbered}
-use Rattle.calendar.specs.declared.Numbered.TheVariants.{Number, NoNumber}
-use Rattle.calendar.specs.declared.Found.{Found}
-use Rattle.calendar.specs.declared.Found.TheVariants.{On, NoDay}
-use Rattle.calendar.specs.declared.Dated.{Dated}
-use Rattle.calendar.specs.declared.Dated.TheVariants.{Is, NoDate}
 use Rattle.calendar.proofs.Totals
 use Rattle.calendar.proofs.Totals.{next, next_from_one, rises}
 use Rattle.calendar.proofs.Years.{year_months, all_years}
@@ -32,35 +27,32 @@ use Rattle.calendar.proofs.Dates.{Valid, valid_of, day_on, day_means, has_number
 
 -- ---- no second answer fits
 
-pub numbered_once : (r s : Numbered) → numbered r ≡ numbered s → r ≡ s
-numbered_once (Number a) (Number b) e = cc
-numbered_once (Number a) NoNumber e = cc
-numbered_once NoNumber (Number b) e = cc
-numbered_once NoNumber NoNumber e = refl
+pub numbered_once : (y m d : ℕ) (r s : Option ℤ) → r ≡ day_number y m d → s ≡ day_number y m d → r ≡ s
+numbered_once y m d r s p q = p ∙ sym q
 
-day_by : (a b : ℕ) → a ≡ b → ◌≡◌ {A = Found} (On (record { 0 = a })) (On (record { 0 = b }))
+day_by : (a b : ℕ) → a ≡ b → ◌≡◌ {A = Option Day} (Some (record { 0 = a })) (Some (record { 0 = b }))
 day_by a b e = cc
 
-pub found_once : (r s : Found) → found r ≡ found s → r ≡ s
-found_once (On a) (On b) e = let same : meaning a.0 ≡ meaning b.0 = cc in day_by a.0 b.0 (meaning_once a.0 b.0 same)
-found_once (On a) NoDay e = cc
-found_once NoDay (On b) e = cc
-found_once NoDay NoDay e = refl
+pub found_once : (r s : Option Day) → found r ≡ found s → r ≡ s
+found_once (Some a) (Some b) e = let same : meaning a.0 ≡ meaning b.0 = cc in day_by a.0 b.0 (meaning_once a.0 b.0 same)
+found_once (Some a) None e = cc
+found_once None (Some b) e = cc
+found_once None None e = refl
 
 date_by : (y y' m m' d d' : ℕ) → y ≡ y' → m ≡ m' → d ≡ d'
-    → ◌≡◌ {A = Dated} (Is (record { year = y; month = m; day = d })) (Is (record { year = y'; month = m'; day = d' }))
+    → ◌≡◌ {A = Option Date} (Some (record { year = y; month = m; day = d })) (Some (record { year = y'; month = m'; day = d' }))
 date_by y y' m m' d d' p q r = cc
 
-pub dates_once : (n : ℤ) (r s : Dated) → DateOf n r → DateOf n s → r ≡ s
-dates_once n (Is x) (Is z) p q =
+pub dates_once : (n : ℤ) (r s : Option Date) → DateOf n r → DateOf n s → r ≡ s
+dates_once n (Some x) (Some z) p q =
     let a = numbered_date x.year x.month x.day n p in
     let b = numbered_date z.year z.month z.day n q in
     let on = meaning_once _ _ (a.1 ∙ sym b.1) in
     let same = one_date x.year x.month x.day z.year z.month z.day a.0 b.0 on in
     date_by x.year z.year x.month z.month x.day z.day same.0 same.1 same.2
-dates_once n (Is x) NoDate p q = absurd (q x.year x.month x.day p)
-dates_once n NoDate (Is z) p q = absurd (p z.year z.month z.day q)
-dates_once n NoDate NoDate p q = refl
+dates_once n (Some x) None p q = absurd (q x.year x.month x.day p)
+dates_once n None (Some z) p q = absurd (p z.year z.month z.day q)
+dates_once n None None p q = refl
 
 -- ---- the table of years, in document 01's numbers: an entry is the day number of 1 January
 
@@ -75,12 +67,12 @@ year_starts k =
 -- ---- round trips
 
 -- from a date to its day number and back
-pub there_and_back : (y m d : ℕ) (n : ℤ) (r : Dated) → day_number y m d ≡ some n → DateOf n r → r ≡ Is (record { year = y; month = m; day = d })
-there_and_back y m d n r p q = dates_once n r (Is (record { year = y; month = m; day = d })) q p
+pub there_and_back : (y m d : ℕ) (n : ℤ) (r : Option Date) → day_number y m d ≡ Some n → DateOf n r → r ≡ Some (record { year = y; month = m; day = d })
+there_and_back y m d n r p q = dates_once n r (Some (record { year = y; month = m; day = d })) q p
 
 -- from a day number to its date and back
-pub back_and_there : (n : ℤ) (x : Date) (r : Numbered) → DateOf n (Is x) → numbered r ≡ day_number x.year x.month x.day → r ≡ Number n
-back_and_there n x r p q = numbered_once r (Number n) (q ∙ p)
+pub back_and_there : (n : ℤ) (x : Date) (r : Option ℤ) → DateOf n (Some x) → r ≡ day_number x.year x.month x.day → r ≡ Some n
+back_and_there n x r p q = q ∙ p
 
 -- ---- the next day is the next date's
 
@@ -187,11 +179,11 @@ on_day (negsuc a) e =
     (d, omega arith, omega arith, simp (lt-ltb d zero_day (omega arith), z))
 
 -- a conversion that finds no date was asked for a day number outside the domain
-pub none_outside : (n : ℤ) → DateOf n NoDate → within n ≡ none
+pub none_outside : (n : ℤ) → DateOf n None → within n ≡ None
 unfolding between
 none_outside n no_date = go (le_z (meaning first_day) n && le_z n (meaning last_day)) refl
   where
-    go : (b : Bool) → (le_z (meaning first_day) n && le_z n (meaning last_day)) ≡ b → cond b (some n) none ≡ none
+    go : (b : Bool) → (le_z (meaning first_day) n && le_z n (meaning last_day)) ≡ b → cond b (Some n) None ≡ None
     go false e = refl
     go true e =
         let on = on_day n e in
@@ -199,7 +191,7 @@ none_outside n no_date = go (le_z (meaning first_day) n && le_z n (meaning last_
         let same : day_of x.0 ≡ on.0 = omega (arith, x.2, on.1) in
         absurd
         (no_date x.0.year x.0.month x.0.day
-        (has_number x.0.year x.0.month x.0.day x.1 ∙ ap some (ap meaning same ∙ on.3)))
+        (has_number x.0.year x.0.month x.0.day x.1 ∙ ap Some (ap meaning same ∙ on.3)))
 
 -- ---- weekdays
 

@@ -71,6 +71,11 @@ module _ (size : ℕ → ℕ) (a : ℕ) where
   at_most_each b h zero = omega arith
   at_most_each b h (suc k) = let one = h (a + k) in omega (arith, at_most_each b h k)
 
+  pub at_least_each : (b : ℕ) → ((k : ℕ) → b ≤ size k) → (k : ℕ) → b * k ≤ total size a k
+  unfolding total
+  at_least_each b h zero = omega arith
+  at_least_each b h (suc k) = let one = h (a + k) in omega (arith, at_least_each b h k)
+
   -- a number lies within one place only
   pub unique : (i j r s : ℕ) → r < size (a + i) → s < size (a + j) → total size a i + r ≡ total size a j + s → i ≡ j
   unique i j r s p q e = go (dec_lt i j) (dec_lt j i)

@@ -7,7 +7,7 @@ use native.Mathlib.Nat.{eq-or-lt_of_le}
 use native.Mathlib.Omega.{arith}
 use lib.ListN.{get_or-eq_default}
 use Rattle.calendar.specs.Gregorian.{first_year, total, leap, year_days, months, month_days}
-use Rattle.calendar.proofs.Totals.{at_most_law, at_most_each}
+use Rattle.calendar.proofs.Totals.{at_most_law, at_most_each, at_least_each}
 
 pub all_years : total year_days first_year 300 ≡ 109573
 unfolding total year_days leap
@@ -20,6 +20,14 @@ year_size false = omega arith
 pub years_most : (k : ℕ) → total year_days first_year k ≤ 366 * k
 unfolding year_days
 years_most k = at_most_each year_days first_year 366 (λ y. year_size (leap y)) k
+
+year_least : (b : Bool) → 365 ≤ cond b 366 365
+year_least true = omega arith
+year_least false = omega arith
+
+pub years_least : (k : ℕ) → 365 * k ≤ total year_days first_year k
+unfolding year_days
+years_least k = at_least_each year_days first_year 365 (λ y. year_least (leap y)) k
 
 pub month_most : (b : Bool) (m : ℕ) → month_days b m ≤ 31
 unfolding month_days

@@ -1,15 +1,11 @@
 -- What the conversions answer, in document 01's numbers. Assumes nothing.
 use Rattle.std.specs.Prelude.{ℕ, ◌%◌, ◌≡◌, ℤ}
-use Rattle.std.proofs.Math.Option.{Option, none, some}
+use Rattle.std.specs.Prelude.{Option, None, Some, option_map}
 use Rattle.std.proofs.Math.IntN.{sub_ℕ}
 use Rattle.wire.specs.Signs.{between}
 use Rattle.calendar.specs.Gregorian.{day_number}
-use Rattle.calendar.specs.declared.Numbered.{Numbered}
-use Rattle.calendar.specs.declared.Numbered.TheVariants.{Number, NoNumber}
-use Rattle.calendar.specs.declared.Found.{Found}
-use Rattle.calendar.specs.declared.Found.TheVariants.{On, NoDay}
-use Rattle.calendar.specs.declared.Dated.{Dated}
-use Rattle.calendar.specs.declared.Dated.TheVariants.{Is, NoDate}
+use Rattle.calendar.specs.declared.Day.{Day}
+use Rattle.calendar.specs.declared.Date.{Date}
 
 -- Days count from 1899-12-25: these are 1900-01-01, 2199-12-31 and 1970-01-01
 abbrev pub first_day : ℕ
@@ -33,16 +29,11 @@ weekday_of d = d % 7
 abbrev pub within : ℤ → Option ℤ
 within n = between (meaning first_day) (meaning last_day) n
 
--- the day number that an answer gives, and that of the Day that an answer gives
-abbrev pub numbered : Numbered → Option ℤ
-numbered (Number n) = some n
-numbered NoNumber = none
-
-abbrev pub found : Found → Option ℤ
-found (On d) = some (meaning d.0)
-found NoDay = none
+-- the day number of the Day that an answer gives
+abbrev pub found : Option Day → Option ℤ
+found r = option_map (λ (d : Day). meaning d.0) r
 
 -- the date that has the day number n; none exactly where no date has it
-abbrev pub DateOf : ℤ → Dated → Type 0
-DateOf n (Is x) = day_number x.year x.month x.day ≡ some n
-DateOf n NoDate = (y m d : ℕ) → day_number y m d ≡ some n → ⊥
+abbrev pub DateOf : ℤ → Option Date → Type 0
+DateOf n (Some x) = day_number x.year x.month x.day ≡ Some n
+DateOf n None = (y m d : ℕ) → day_number y m d ≡ Some n → ⊥

@@ -1,7 +1,7 @@
 -- The Gregorian calendar of ISO 8601, for the dates from 1900-01-01 to 2199-12-31, and document 01's day numbers: days since
 -- 1970-01-01. Assumes nothing.
 use Rattle.std.specs.Prelude.{ℕ, zero, suc, ◌+◌, ◌-◌, ◌%◌, Bool, true, false, cond, not, ◌&&◌, ◌||◌, List, [], ◌∷◌, eqb, leb, ltb, ℤ, get_or}
-use Rattle.std.proofs.Math.Option.{Option, none, some}
+use Rattle.std.specs.Prelude.{Option, None, Some}
 use Rattle.std.proofs.Math.IntN.{sub_ℕ}
 
 -- the years of the calendar here
@@ -46,7 +46,7 @@ number y m d = sub_ℕ (elapsed y m d) (elapsed 1970 1 1)
 
 -- the day number of a year, month and day; none where they are no such date
 unfoldable pub day_number : ℕ → ℕ → ℕ → Option ℤ
-day_number y m d = cond (is_date y m d) (some (number y m d)) none
+day_number y m d = cond (is_date y m d) (Some (number y m d)) None
 
 -- a year, month and day, in this order
 pub record Civil : Type 0 where

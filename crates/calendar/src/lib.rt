@@ -2,11 +2,11 @@
 #![tactic(auto)]
 
 ghost use Rattle.std.specs.Prelude.{◌≡◌, true, suc, ◌+◌, ◌-◌, ◌≤◌, ◌<◌};
-ghost use Rattle.std.proofs.Math.Option.{some};
+ghost use Rattle.std.specs.Prelude.{Some};
 ghost use Rattle.calendar.specs.Gregorian.{first_year, total, leap, year_days, month_days, day_number};
-ghost use Rattle.calendar.specs.Answers.{first_day, last_day, meaning, within, numbered, found, weekday_of, DateOf};
+ghost use Rattle.calendar.specs.Answers.{first_day, last_day, meaning, within, found, weekday_of, DateOf};
 
-use wire::{HALF4, Placed4, place4, unplace4};
+use wire::{HALF4, Placed};
 
 // Days since 1899-12-25, the Monday before 1900-01-01: nothing in the domain is negative, and the weekday is a remainder.
 #[derive(Clone, Copy)]
@@ -17,27 +17,6 @@ pub struct Date {
     pub year: u32,
     pub month: u32,
     pub day: u32,
-}
-
-// A day number, where there is one.
-#[derive(Clone, Copy)]
-pub enum Numbered {
-    Number(i32),
-    NoNumber,
-}
-
-// A Day, where there is one.
-#[derive(Clone, Copy)]
-pub enum Found {
-    On(Day),
-    NoDay,
-}
-
-// A date, where there is one.
-#[derive(Clone, Copy)]
-pub enum Dated {
-    Is(Date),
-    NoDate,
 }
 
 const FIRST_YEAR: u32 = 1900;
@@ -123,11 +102,9 @@ fn month_start(leap_year: bool, month: u32) -> u32
     requires { (1 ≤ month) × (month ≤ 13) }
     ensures { (result ≡ total (month_days leap_year) 1 (month - 1)) × (result ≤ 372) }
 {
-    let mut m: u32 = 1;
     let mut days: u32 = 0;
-    while m < month {
+    for m in 1..month {
         days += month_days(leap_year, m);
-        m += 1;
     }
     days
 }
@@ -137,11 +114,13 @@ fn year_of(day: u32) -> usize
     requires { (first_day ≤ day) × (day ≤ last_day) }
     ensures { (result < 300) × (first_day + total year_days first_year result ≤ day) × (day < first_day + total year_days first_year (suc result)) }
 {
-    let mut k = ((day - FIRST_DAY) / 366) as usize;
-    while year_start(k + 1) <= day {
-        k += 1;
+    // In 300 years of 365 or 366 days each this is the year, or the one before it.
+    let guess = ((day - FIRST_DAY) / 366) as usize;
+    if year_start(guess + 1) <= day {
+        guess + 1
+    } else {
+        guess
     }
-    k
 }
 
 // The month that a day of a year lies in.
@@ -149,38 +128,39 @@ fn month_of(leap_year: bool, day: u32) -> u32
     requires { day < total (month_days leap_year) 1 12 }
     ensures { (1 ≤ result) × (result ≤ 12) × (total (month_days leap_year) 1 (result - 1) ≤ day) × (day < total (month_days leap_year) 1 result) }
 {
-    let mut m: u32 = 1;
-    while month_start(leap_year, m + 1) <= day {
-        m += 1;
+    for month in 1..12 {
+        if day < month_start(leap_year, month + 1) {
+            return month;
+        }
     }
-    m
+    12
 }
 
 // The Day of a date.
-fn day_on(year: u32, month: u32, day: u32) -> Found
+fn day_on(year: u32, month: u32, day: u32) -> Option<Day>
     ensures { found result ≡ day_number year month day }
 {
     if year < FIRST_YEAR {
-        return Found::NoDay;
+        return None;
     }
     if LAST_YEAR < year {
-        return Found::NoDay;
+        return None;
     }
     if day < 1 {
-        return Found::NoDay;
+        return None;
     }
     let leap_year = is_leap(year);
     if month_days(leap_year, month) < day {
-        return Found::NoDay;
+        return None;
     }
     let k = (year - FIRST_YEAR) as usize;
-    Found::On(Day(year_start(k) + month_start(leap_year, month) + (day - 1)))
+    Some(Day(year_start(k) + month_start(leap_year, month) + (day - 1)))
 }
 
 // The date on a Day from 1900-01-01 to 2199-12-31.
 fn date_on(d: Day) -> Date
     requires { (first_day ≤ d.0) × (d.0 ≤ last_day) }
-    ensures { day_number result.year result.month result.day ≡ some (meaning d.0) }
+    ensures { day_number result.year result.month result.day ≡ Some (meaning d.0) }
 {
     let n = d.0;
     let k = year_of(n);
@@ -197,51 +177,46 @@ fn date_on(d: Day) -> Date
 }
 
 // The Day that a day number means, if it is one of document 01's.
-pub fn day_of(number: i32) -> Found
+pub fn day_of(number: i32) -> Option<Day>
     ensures { found result ≡ within number }
 {
-    let placed = place4(number).0;
+    let placed = Placed::from(number).0;
     if placed < DAY_ZERO + FIRST_DAY {
-        return Found::NoDay;
+        return None;
     }
     if DAY_ZERO + LAST_DAY < placed {
-        return Found::NoDay;
+        return None;
     }
-    Found::On(Day(placed - DAY_ZERO))
+    Some(Day(placed - DAY_ZERO))
 }
 
 // The day number of a Day, if it is one of document 01's.
-pub fn number_of(d: Day) -> Numbered
-    ensures { numbered result ≡ within (meaning d.0) }
+pub fn number_of(d: Day) -> Option<i32>
+    ensures { result ≡ within (meaning d.0) }
 {
     let n = d.0;
     if n < FIRST_DAY {
-        return Numbered::NoNumber;
+        return None;
     }
     if LAST_DAY < n {
-        return Numbered::NoNumber;
+        return None;
     }
-    Numbered::Number(unplace4(Placed4(n + DAY_ZERO)))
+    Some(i32::from(Placed(n + DAY_ZERO)))
 }
 
 // The day number of a year, month and day, if they are a date.
-pub fn day_number(year: u32, month: u32, day: u32) -> Numbered
-    ensures { numbered result ≡ day_number year month day }
+pub fn day_number(year: u32, month: u32, day: u32) -> Option<i32>
+    ensures { result ≡ day_number year month day }
 {
-    match day_on(year, month, day) {
-        Found::On(d) => number_of(d),
-        Found::NoDay => Numbered::NoNumber,
-    }
+    number_of(day_on(year, month, day)?)
 }
 
 // The date that has a day number, if there is one.
-pub fn date_of(number: i32) -> Dated
+pub fn date_of(number: i32) -> Option<Date>
     ensures { DateOf number result }
 {
-    match day_of(number) {
-        Found::On(d) => Dated::Is(date_on(d)),
-        Found::NoDay => Dated::NoDate,
-    }
+    let day = day_of(number)?;
+    Some(date_on(day))
 }
 
 // The day of the week, Monday 0 to Sunday 6.

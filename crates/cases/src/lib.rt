@@ -1,5 +1,5 @@
-// What the programs share: a buffer filled from a reader, and, of those that compare a crate with a list of cases, the list's numbers and
-// the counts. A list has blocks of 65,536 bytes; a block has records, each a kind, a byte, and signed numbers of 8 bytes, and zeros behind
+// What the programs share: a buffer filled from a reader, and, of those that compare a crate with a list of cases, the list's blocks, its
+// numbers and the counts. A list has blocks of 65,536 bytes; a block has records, each a kind, a byte, and signed numbers of 8 bytes, and zeros behind
 // the last.
 #![tactic(auto)]
 
@@ -7,7 +7,7 @@ ghost use Rattle.std.specs.Prelude.{◌≡◌, ◌≤◌, IfOk, length};
 ghost use Rattle.cases.specs.Cases.{number_at, more, met_of};
 
 use std::io::{Read, Result};
-use wire::{HALF8, Placed};
+use wire::{Field, HALF8, Placed};
 
 // How many bytes a block of a list has.
 pub const BLOCK_BYTES: usize = 65_536;
@@ -22,7 +22,7 @@ const DIFFERED: u8 = 0;
 pub const ZERO: u64 = HALF8;
 
 // The number at a place of the record at `at`; 0 where the list ends before it.
-pub fn number(list: &[u8], at: usize, place: u8) -> Placed
+pub fn number(list: &[u8], at: usize, place: u8) -> Placed<u64>
     ensures { result.0 ≡ number_at list.now at place }
 {
     let from = 8 * (place as usize) + 1;
@@ -32,7 +32,7 @@ pub fn number(list: &[u8], at: usize, place: u8) -> Placed
     if list.len() - at < from + 8 {
         return Placed(ZERO);
     }
-    wire::signed8(list, at + from)
+    Placed::<u64>::get(list, at + from)
 }
 
 fn add(counts: &mut [u64], kind: u8)
@@ -40,7 +40,7 @@ fn add(counts: &mut [u64], kind: u8)
 {
     let i = kind as usize;
     if i < counts.len() {
-        counts[i] = std::num::wrapping_add_u64(counts[i], 1);
+        counts[i] = counts[i].wrapping_add(1);
     }
 }
 
@@ -59,6 +59,7 @@ pub fn read_full<R: Read>(from: &mut R, buffer: &mut [u8]) -> Result<usize>
     ensures { IfOk result (λ n. n ≤ length buffer.new) }
 {
     let mut filled: usize = 0;
+    // A read gives as much as the reader has.
     while filled < buffer.len() {
         let n = from.read(&mut buffer[filled..])?;
         if n == 0 {
@@ -69,13 +70,37 @@ pub fn read_full<R: Read>(from: &mut R, buffer: &mut [u8]) -> Result<usize>
     Ok(filled)
 }
 
+// Hands each block of a list to a visitor.
+pub fn each_block<R: Read, F: FnMut(&[u8])>(list: &mut R, mut visit: F) -> Result<()>
+    requires { F.IsAlwaysCallable visit }
+{
+    let mut block = [0u8; BLOCK_BYTES];
+    for _ in 0..BLOCKS {
+        let n = read_full(list, &mut block)?;
+        if n == 0 {
+            break;
+        }
+        visit(&block[..n]);
+    }
+    Ok(())
+}
+
+// A number of the list that counts something; 0 for one below 0 or not below 2^32.
+pub fn count(p: Placed<u64>) -> u32 {
+    let n = p.0;
+    if n < ZERO {
+        return 0;
+    }
+    if 0xffff_ffff < n - ZERO {
+        return 0;
+    }
+    (n - ZERO) as u32
+}
+
 // Prints a name and the count at a place. What is printed is compared with what should be, and not proved.
-pub fn report(rt: &impl Print, name: &[u8], counts: &[u64], kind: u8) -> Result<()> {
-    let i = kind as usize;
-    if i < counts.len() {
-        let count = counts[i];
-        rt.write_all(name)?;
-        println!(rt; "{count}")?;
+pub fn report(rt: &impl Print, name: &str, counts: &[u64], kind: u8) -> Result<()> {
+    if let Some(count) = counts.get(kind as usize) {
+        println!(rt; "{name} {count}")?;
     }
     Ok(())
 }
@@ -84,8 +109,10 @@ pub fn report(rt: &impl Print, name: &[u8], counts: &[u64], kind: u8) -> Result<
 pub fn report_refusals(rt: &impl Print, counts: &[u64], end: u8) -> Result<()> {
     for kind in 2..end {
         let number = kind - 1;
-        print!(rt; "refused by {number}")?;
-        report(rt, b" ", counts, kind)?;
+        print!(rt; "refused by {number} ")?;
+        if let Some(count) = counts.get(kind as usize) {
+            println!(rt; "{count}")?;
+        }
     }
     Ok(())
 }

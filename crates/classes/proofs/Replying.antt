@@ -1,51 +1,57 @@
 -- The replies, by the order of their numbers. Assumes nothing.
-use mathlib.Core.Path.{◌≡◌, sym, ap, ◌∙◌}
+use mathlib.Core.Path.{◌≡◌, sym, ap}
 use mathlib.Core.Bool.{true, false}
 use mathlib.Core.List.{List}
 use Prim.Native.Nat.{ℕ}
 use lib.IntN.{ℤ}
 use lib.ListN.{length}
 use mir.Syntax.{w64}
+use Rattle.std.specs.Prelude.{Ok, Err}
 use Rattle.wire.specs.Signs.{placed}
 use Rattle.records.specs.Book.{inside, instants}
+use Rattle.lend.specs.Refusals.{number}
+use Rattle.lend.specs.declared.refusal.Refusal.{Refusal}
 use Rattle.rows.specs.Rows.{Row, good_row, good_rows, segments, rows}
 use Rattle.rows.proofs.Laws.{rows_none}
 use Rattle.classes.specs.Classes.{class_number, class_at, no_class, judged_class, class_reply, number_of, counted, no_count, judged_count, count_reply}
+use Rattle.classes.specs.Reading.{class_told, count_told}
+use Rattle.classes.specs.declared.Class.{Class}
 use Rattle.classes.specs.declared.ClassReply.{ClassReply}
 use Rattle.classes.specs.declared.CountReply.{CountReply}
+use Rattle.classes.specs.declared.counting.Counts.{Counts}
 
 module _ (s : List ℕ) where
   module _ (at : ℤ) where
-    pub class_outside : {r : ClassReply} → inside instants at ≡ false → r ≡ no_class 10 → r ≡ class_reply s at
+    pub class_outside : (w : Refusal) → inside instants at ≡ false → number w ≡ 10 → class_told (Err w) ≡ class_reply s at
     unfolding class_reply
-    class_outside i e = simp i e
+    class_outside w i e = simp i (ap no_class e)
 
     pub class_judged : {r : ClassReply} → inside instants at ≡ true → r ≡ judged_class s (placed w64 at) → r ≡ class_reply s at
     unfolding class_reply
     class_judged i e = simp i e
 
-    pub count_outside : {r : CountReply} → inside instants at ≡ false → r ≡ no_count 10 → r ≡ count_reply s at
+    pub count_outside : (w : Refusal) → inside instants at ≡ false → number w ≡ 10 → count_told (Err w) ≡ count_reply s at
     unfolding count_reply
-    count_outside i e = simp i e
+    count_outside w i e = simp i (ap no_count e)
 
     pub count_judged : {r : CountReply} → inside instants at ≡ true → r ≡ judged_count s (placed w64 at) → r ≡ count_reply s at
     unfolding count_reply
     count_judged i e = simp i e
 
   module _ (t : ℕ) where
-    pub class_bad : {r : ClassReply} → good_row s ≡ false → r ≡ no_class 15 → r ≡ judged_class s t
-    class_bad g e = simp g e
+    pub class_bad : (w : Refusal) → good_row s ≡ false → number w ≡ 15 → class_told (Err w) ≡ judged_class s t
+    class_bad w g e = simp g (ap no_class e)
 
-    pub class_told : good_row s ≡ true → {n : ℕ} → n ≡ class_number (class_at (segments s) t) → record { number = 0; shown = n } ≡ judged_class s t
-    class_told g e = simp g (ap (λ (x : ℕ). record { number = 0; shown = x }) e)
+    pub class_good : (x : Class) → good_row s ≡ true → x ≡ class_at (segments s) t → class_told (Ok x) ≡ judged_class s t
+    class_good x g e = simp g (ap (λ (x : Class). record { number = 0; shown = class_number x }) e)
 
-    pub count_bad : {r : CountReply} → good_rows s ≡ false → r ≡ no_count 15 → r ≡ judged_count s t
-    count_bad g e = simp g e
+    pub count_bad : (w : Refusal) → good_rows s ≡ false → number w ≡ 15 → count_told (Err w) ≡ judged_count s t
+    count_bad w g e = simp g (ap no_count e)
 
-    pub count_told : {r : CountReply} → good_rows s ≡ true → r ≡ counted (rows s) t → r ≡ judged_count s t
-    count_told g e = simp g e
+    pub count_good : (c : Counts) → good_rows s ≡ true → count_told (Ok c) ≡ counted (rows s) t → count_told (Ok c) ≡ judged_count s t
+    count_good c g e = simp g e
 
     -- no rows
-    pub count_none : {r : CountReply} → length s ≡ 0 → r ≡ no_count 0 → r ≡ judged_count s t
+    pub count_none : length s ≡ 0 → no_count 0 ≡ judged_count s t
     unfolding number_of
-    count_none z e = let n = rows_none s z in count_told n.0 (e ∙ ap (λ (rs : List Row). counted rs t) (sym n.1))
+    count_none z = let n = rows_none s z in count_good _ n.0 (ap (λ (rs : List Row). counted rs t) (sym n.1))

@@ -2,18 +2,15 @@
 use mathlib.Core.Path.{◌≡◌, refl, sym, ap, ◌∙◌}
 use mathlib.Core.Bool.{Bool, true, false, cond}
 use mathlib.Core.List.{List, [], ◌∷◌}
-use mathlib.Core.Option.{some}
+use Rattle.std.specs.Prelude.{Some}
 use Prim.Native.Nat.{ℕ, ◌+◌, ◌-◌, ◌*◌, ◌≤◌, ◌<◌}
 use native.Mathlib.Omega.{arith}
 use lib.ListN.{length}
 use Rattle.records.specs.Book.{trading}
 use Rattle.spans.specs.Spans.{Mark, phase, unknown, Span, look, holds}
-use Rattle.spans.proofs.Lists.{holds_yes, holds_early, holds_late}
 use Rattle.rows.specs.Rows as Rows
 use Rattle.rows.specs.Rows.{segments_at, shown_at}
 use Rattle.rows.specs.Telling.{mark_of, segment_of, span_of, end_of, good_on, mark_at, rows_at}
-use Rattle.rows.specs.declared.Shows.{Shows}
-use Rattle.rows.specs.declared.Shows.TheVariants.{Phase}
 use Rattle.rows.specs.declared.RowSegment.{RowSegment}
 use Rattle.rows.proofs.Turns.{mark_holds}
 use Rattle.rows.proofs.Places.{holds as segment-holds, segments_end, mark_end, rows_end, segments_mark, mark_mark, rows_mark}
@@ -23,22 +20,6 @@ use Rattle.classes.specs.Classes.{class_of, class_at}
 use Rattle.classes.specs.Reading.{marks, class_in, first_of, Only, Another}
 use Rattle.classes.specs.declared.Class.{Class}
 use Rattle.classes.specs.declared.Class.TheVariants.{Trading, NotTrading, NotKnown, NotShown}
-
--- ---- a segment's class
-
-module _ (x : Shows) (p e : ℕ) (i : x ≡ Phase p e) (b : Bool) (j : b ≡ trading p) where
-  pub class_phase : cond b Trading NotTrading ≡ class_of (some (mark_of x))
-  class_phase = rw (i, j)
-
-module _ (g : RowSegment) (t : ℕ) where
-  pub class_early : t < g.from.0 → NotShown ≡ class_in g t
-  class_early h = simp (holds_early (marks g) t h)
-
-  pub class_late : g.to.0 ≤ t → NotShown ≡ class_in g t
-  class_late h = simp (holds_late (marks g) t h)
-
-  pub class_held : g.from.0 ≤ t → t < g.to.0 → (x : Class) → x ≡ class_of (some (mark_of g.shows)) → x ≡ class_in g t
-  class_held a b x e = simp (holds_yes (marks g) t a b) e
 
 -- ---- one after the other
 
@@ -55,14 +36,14 @@ first_none NotKnown = refl
 first_none NotShown = refl
 
 -- what is shown is no other than shown
-first_some : (m : Mark) (y : Class) → class_of (some m) ≡ first_of (class_of (some m)) y
+first_some : (m : Mark) (y : Class) → class_of (Some m) ≡ first_of (class_of (Some m)) y
 first_some m y = go m
   where
     by : (b : Bool) → cond b Trading NotTrading ≡ first_of (cond b Trading NotTrading) y
     by true = refl
     by false = refl
 
-    go : (m : Mark) → class_of (some m) ≡ first_of (class_of (some m)) y
+    go : (m : Mark) → class_of (Some m) ≡ first_of (class_of (Some m)) y
     go (phase p e) = by (trading p)
     go unknown = refl
 
@@ -71,7 +52,7 @@ class_on : (s : List ℕ) (g : RowSegment) (ss : List (Span Rows.Seen)) (t : ℕ
 unfolding look
 class_on s g ss t = go (holds (marks g) t)
   where
-    go : (b : Bool) → class_of (cond b (some (mark_of g.shows)) (shown_at ss t)) ≡ first_of (cond b (class_of (some (mark_of g.shows))) NotShown) (class_at ss t)
+    go : (b : Bool) → class_of (cond b (Some (mark_of g.shows)) (shown_at ss t)) ≡ first_of (cond b (class_of (Some (mark_of g.shows))) NotShown) (class_at ss t)
     go true = first_some (mark_of g.shows) (class_at ss t)
     go false = refl
 

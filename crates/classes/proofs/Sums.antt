@@ -2,16 +2,17 @@
 use mathlib.Core.Path.{◌≡◌, refl, ap, ◌∙◌}
 use mathlib.Core.Bool.{Bool, true, false, cond}
 use mathlib.Core.List.{List, [], ◌∷◌}
-use Prim.Native.Nat.{ℕ, ◌+◌, ◌^◌, ◌≤◌, ◌<◌}
+use Prim.Native.Nat.{ℕ, ◌+◌, ◌≤◌, ◌<◌}
 use native.Mathlib.Omega.{arith}
 use lib.Dec.{eqb}
 use lib.ListN.{length}
+use Rattle.std.specs.Prelude.{Ok}
 use Rattle.rows.specs.Rows.{Row, good_mark, good_rows, segments_at, rows}
 use Rattle.rows.specs.Telling.{good_on, mark_at, rows_at}
 use Rattle.rows.proofs.Turns.{mark_holds}
 use Rattle.rows.proofs.Laws.{rows_marked, rows_first}
 use Rattle.classes.specs.Classes.{class_at, class_number, one, number_of, counted}
-use Rattle.classes.specs.Reading.{Only, Another, Few, Added, reply}
+use Rattle.classes.specs.Reading.{Only, Another, Added, count_told}
 use Rattle.classes.specs.declared.Class.{Class}
 use Rattle.classes.specs.declared.Class.TheVariants.{Trading, NotTrading, NotKnown, NotShown}
 use Rattle.classes.specs.declared.counting.Counts.{Counts}
@@ -59,15 +60,6 @@ module _ (s : List ℕ) (t : ℕ) where
       }
 
   module _ {at : ℕ} {sum : Counts} (o : Summing at sum) where
-    pub sum_few : length s < 2 ^ 64 → Few sum
-    sum_few l =
-        record {
-          venues = omega (arith, o.few, o.inside);
-          trading = o.few_trading;
-          not_trading = o.few_not_trading;
-          not_known = o.few_not_known;
-        }
-
     module _ {x : Class} {sum' : Counts} (p : Added sum x sum') where
       -- another row follows
       pub sum_on : {b : ℕ} → Another true s at t x b → Summing b sum'
@@ -89,7 +81,7 @@ module _ (s : List ℕ) (t : ℕ) where
           }
 
       -- none does: all rows are counted
-      pub sum_end : Only true s at t x → reply sum' ≡ counted (rows s) t
+      pub sum_end : Only true s at t x → count_told (Ok sum') ≡ counted (rows s) t
       unfolding number_of
       sum_end a =
           let e = a.rows in

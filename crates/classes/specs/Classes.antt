@@ -1,6 +1,6 @@
 -- A row's class at an instant, and how many rows are of each class. Document 01, "Board". Assumes nothing.
 use Rattle.std.specs.Prelude.{ℕ, ◌+◌, cond, List, [], ◌∷◌, eqb, ℤ, length}
-use Rattle.std.proofs.Math.Option.{Option, none, some}
+use Rattle.std.specs.Prelude.{Option, None, Some}
 use Rattle.std.specs.Int.{w64}
 use Rattle.wire.specs.Signs.{placed}
 use Rattle.records.specs.Book.{inside, instants, trading}
@@ -13,9 +13,9 @@ use Rattle.classes.specs.declared.CountReply.{CountReply}
 
 -- trading, not trading, not known, or not shown where no segment stands
 abbrev pub class_of : Option Mark → Class
-class_of none = NotShown
-class_of (some unknown) = NotKnown
-class_of (some (phase p e)) = cond (trading p) Trading NotTrading
+class_of None = NotShown
+class_of (Some unknown) = NotKnown
+class_of (Some (phase p e)) = cond (trading p) Trading NotTrading
 
 abbrev pub class_at : List (Span Seen) → ℕ → Class
 class_at ss t = class_of (shown_at ss t)

@@ -1,34 +1,35 @@
 // A row's class at an instant: the row is judged and classed in one reading.
-ghost use Rattle.std.specs.Prelude.{◌≤◌, ◌≡◌, length};
-ghost use Rattle.std.proofs.Math.Option.{some};
+ghost use Rattle.std.specs.Prelude.{◌≤◌, ◌≡◌, length, Some};
+ghost use Rattle.lend.specs.Refusals.{numbered};
 ghost use Rattle.rows.specs.Telling.{mark_of};
 ghost use Rattle.classes.specs.Classes.{class_of, class_number, class_reply};
-ghost use Rattle.classes.specs.Reading.{class_in, first_of, Classes};
+ghost use Rattle.classes.specs.Reading.{class_in, first_of, class_told, Classes};
 
 use crate::{Class, ClassReply};
 use answer::MARK_SIZE;
-use query::{Asked, OUTSIDE, asked_at};
+use lend::Refusal;
+use query::asked_at;
 use records::is_trading;
-use rows::{BAD_ROW, RowSegment, Shows, Stands, read_event, read_segment, stands_at};
-use wire::place;
+use rows::{RowSegment, Shows, Stands, read_event, read_segment, stands_at};
+use wire::Placed;
 
 // The class of a row; and if a mark follows it, the place behind the mark.
 #[derive(Clone, Copy)]
-pub(crate) enum Classed {
-    Bad,
-    Last(Class),
-    More(Class, usize),
+pub(crate) struct Classed {
+    pub(crate) shown: Class,
+    pub(crate) next: Option<usize>,
 }
 
 fn class_of(shows: Shows) -> Class
-    ensures { result ≡ class_of (some (mark_of shows)) }
+    ensures { result ≡ class_of (Some (mark_of shows)) }
 {
     match shows {
-        Shows::Phase(phase, evidence) => {
+        Shows::Phase(phase, _) => {
             if is_trading(phase) {
-                return Class::Trading;
+                Class::Trading
+            } else {
+                Class::NotTrading
             }
-            Class::NotTrading
         }
         Shows::Unknown => Class::NotKnown,
     }
@@ -38,33 +39,28 @@ fn class_of(shows: Shows) -> Class
 fn class_in(g: RowSegment, t: u64) -> Class
     ensures { result ≡ class_in g t }
 {
-    let from = g.from;
-    let to = g.to;
-    if t < from.0 {
+    if t < g.from.0 {
         return Class::NotShown;
     }
-    if to.0 <= t {
+    if g.to.0 <= t {
         return Class::NotShown;
     }
-    let shows = g.shows;
-    class_of(shows)
+    class_of(g.shows)
 }
 
 fn first(a: Class, b: Class) -> Class
     ensures { result ≡ first_of a b }
 {
     match a {
-        Class::Trading => a,
-        Class::NotTrading => a,
-        Class::NotKnown => a,
         Class::NotShown => b,
+        _ => a,
     }
 }
 
 // Of the row that begins at `start`, where marks may follow it or not.
-pub(crate) fn row_class(rows: &[u8], start: usize, marks: bool, t: u64) -> Classed
+pub(crate) fn row_class(rows: &[u8], start: usize, marks: bool, t: u64) -> Result<Classed, Refusal>
     requires { start ≤ length rows.now }
-    ensures { Classes marks rows.now start t result }
+    ensures { Classes marks rows.now start t (numbered result) }
 {
     let mut at = start;
     let mut least: u64 = 0;
@@ -72,63 +68,72 @@ pub(crate) fn row_class(rows: &[u8], start: usize, marks: bool, t: u64) -> Class
     let mut shown = Class::NotShown;
     loop {
         match stands_at(rows, at, least, waiting, marks) {
-            Stands::Bad => {
-                return Classed::Bad;
+            None => {
+                return Err(Refusal::BadRow);
             }
-            Stands::End => {
-                return Classed::Last(shown);
+            Some(Stands::End) => {
+                return Ok(Classed { shown, next: None });
             }
-            Stands::Mark => {
-                let behind = at + MARK_SIZE;
-                return Classed::More(shown, behind);
+            Some(Stands::Mark) => {
+                return Ok(Classed {
+                    shown,
+                    next: Some(at + MARK_SIZE),
+                });
             }
-            Stands::Segment => {
+            Some(Stands::Segment) => {
                 let g = read_segment(rows, at);
                 shown = first(shown, class_in(g, t));
-                let to = g.to;
                 at = g.behind;
-                least = to.0;
+                least = g.to.0;
                 waiting = g.events;
             }
-            Stands::Event => {
-                let e = read_event(rows, at);
-                at = e.behind;
+            Some(Stands::Event) => {
+                at = read_event(rows, at).behind;
                 waiting -= 1;
             }
         }
     }
 }
 
-fn number_of(shown: Class) -> u32
-    ensures { result ≡ class_number shown }
-{
-    match shown {
-        Class::Trading => 1,
-        Class::NotTrading => 2,
-        Class::NotKnown => 3,
-        Class::NotShown => 4,
+impl From<Class> for u32 {
+    ghost use Rattle.std.specs.Prelude.{◌≡◌};
+    ghost use Rattle.classes.specs.Classes.{class_number};
+
+    ghost from_gives = { λ c n. n ≡ class_number c };
+
+    fn from(shown: Class) -> u32 {
+        shown as u32
     }
 }
 
-fn no_class(number: u32) -> ClassReply
-    ensures { result ≡ record { number = number; shown = 0 } }
-{
-    ClassReply { number, shown: 0 }
+impl From<Result<Class, Refusal>> for ClassReply {
+    ghost use Rattle.std.specs.Prelude.{◌≡◌};
+    ghost use Rattle.classes.specs.Reading.{class_told};
+
+    ghost from_gives = { λ r p. p ≡ class_told r };
+
+    fn from(r: Result<Class, Refusal>) -> ClassReply {
+        match r {
+            Ok(shown) => ClassReply {
+                number: 0,
+                shown: u32::from(shown),
+            },
+            Err(why) => ClassReply {
+                number: u32::from(why),
+                shown: 0,
+            },
+        }
+    }
 }
 
 // Any bytes, any instant.
-pub fn class_answer(row: &[u8], at: i64) -> ClassReply
-    ensures { result ≡ class_reply row.now at }
+pub fn class_answer(row: &[u8], at: i64) -> Result<Class, Refusal>
+    ensures { class_told result ≡ class_reply row.now at }
 {
-    match asked_at(at) {
-        Asked::Outside => no_class(OUTSIDE),
-        Asked::At(t) => match row_class(row, 0, false, place(at).0) {
-            Classed::Bad => no_class(BAD_ROW),
-            Classed::Last(shown) => ClassReply {
-                number: 0,
-                shown: number_of(shown),
-            },
-            Classed::More(shown, behind) => no_class(BAD_ROW),
-        },
+    asked_at(at)?;
+    let classed = row_class(row, 0, false, Placed::from(at).0)?;
+    match classed.next {
+        None => Ok(classed.shown),
+        Some(_) => Err(Refusal::BadRow),
     }
 }

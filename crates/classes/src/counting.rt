@@ -1,23 +1,32 @@
 // How many rows are of each class at an instant, in one reading of the rows.
 ghost use Rattle.std.specs.Prelude.{◌≡◌, true};
 ghost use Rattle.rows.specs.Rows.{good_mark};
-ghost use Rattle.classes.specs.Classes.{no_count, judged_count, count_reply};
-ghost use Rattle.classes.specs.Reading.{Few, Added, reply};
+ghost use Rattle.classes.specs.Classes.{judged_count, count_reply};
+ghost use Rattle.classes.specs.Reading.{Few, Added, count_told};
 
-use crate::classing::{Classed, row_class};
+use crate::classing::row_class;
 use crate::{Class, CountReply};
 use answer::MARK_SIZE;
-use query::{Asked, OUTSIDE, asked_at};
-use rows::{BAD_ROW, Stands, stands_at};
-use wire::place;
+use lend::Refusal;
+use query::asked_at;
+use rows::{Stands, stands_at};
+use wire::Placed;
 
+// How many rows there are, and how many of each class but the last.
 #[derive(Clone, Copy)]
-pub(crate) struct Counts {
-    pub(crate) venues: u64,
-    pub(crate) trading: u64,
-    pub(crate) not_trading: u64,
-    pub(crate) not_known: u64,
+pub struct Counts {
+    pub venues: u64,
+    pub trading: u64,
+    pub not_trading: u64,
+    pub not_known: u64,
 }
+
+const NO_ROWS: Counts = Counts {
+    venues: 0,
+    trading: 0,
+    not_trading: 0,
+    not_known: 0,
+};
 
 // One more row, of a class.
 fn add(c: Counts, shown: Class) -> Counts
@@ -41,52 +50,42 @@ fn add(c: Counts, shown: Class) -> Counts
     more
 }
 
-fn no_count(number: u32) -> CountReply
-    ensures { result ≡ no_count number }
-{
-    CountReply {
-        number,
-        venues: 0,
-        trading: 0,
-        not_trading: 0,
-        not_known: 0,
-    }
-}
+impl From<Result<Counts, Refusal>> for CountReply {
+    ghost use Rattle.std.specs.Prelude.{◌≡◌};
+    ghost use Rattle.classes.specs.Reading.{count_told};
 
-fn counted(c: Counts) -> CountReply
-    ensures { result ≡ reply c }
-{
-    CountReply {
-        number: 0,
-        venues: c.venues,
-        trading: c.trading,
-        not_trading: c.not_trading,
-        not_known: c.not_known,
+    ghost from_gives = { λ r p. p ≡ count_told r };
+
+    fn from(r: Result<Counts, Refusal>) -> CountReply {
+        let (number, c) = match r {
+            Ok(c) => (0, c),
+            Err(why) => (u32::from(why), NO_ROWS),
+        };
+        CountReply {
+            number,
+            venues: c.venues,
+            trading: c.trading,
+            not_trading: c.not_trading,
+            not_known: c.not_known,
+        }
     }
 }
 
 // Of rows of which the first begins behind a mark.
-fn count_rows(rows: &[u8], t: u64) -> CountReply
+fn count_rows(rows: &[u8], t: u64) -> Result<Counts, Refusal>
     requires { good_mark rows.now 0 ≡ true }
-    ensures { result ≡ judged_count rows.now t }
+    ensures { count_told result ≡ judged_count rows.now t }
 {
-    let mut sum = Counts {
-        venues: 0,
-        trading: 0,
-        not_trading: 0,
-        not_known: 0,
-    };
+    let mut sum = NO_ROWS;
     let mut at = MARK_SIZE;
     loop {
-        match row_class(rows, at, true, t) {
-            Classed::Bad => {
-                return no_count(BAD_ROW);
+        let classed = row_class(rows, at, true, t)?;
+        sum = add(sum, classed.shown);
+        match classed.next {
+            None => {
+                return Ok(sum);
             }
-            Classed::Last(shown) => {
-                return counted(add(sum, shown));
-            }
-            Classed::More(shown, behind) => {
-                sum = add(sum, shown);
+            Some(behind) => {
                 at = behind;
             }
         }
@@ -94,17 +93,15 @@ fn count_rows(rows: &[u8], t: u64) -> CountReply
 }
 
 // Any bytes, any instant. Zero bytes are no rows; others begin with a mark.
-pub fn count_answer(rows: &[u8], at: i64) -> CountReply
-    ensures { result ≡ count_reply rows.now at }
+pub fn count_answer(rows: &[u8], at: i64) -> Result<Counts, Refusal>
+    ensures { count_told result ≡ count_reply rows.now at }
 {
-    match asked_at(at) {
-        Asked::Outside => no_count(OUTSIDE),
-        Asked::At(t) => match stands_at(rows, 0, 0, 0, true) {
-            Stands::Bad => no_count(BAD_ROW),
-            Stands::End => no_count(0),
-            Stands::Mark => count_rows(rows, place(at).0),
-            Stands::Segment => no_count(BAD_ROW),
-            Stands::Event => no_count(BAD_ROW),
-        },
+    asked_at(at)?;
+    match stands_at(rows, 0, 0, 0, true) {
+        Some(Stands::End) => Ok(NO_ROWS),
+        Some(Stands::Mark) => count_rows(rows, Placed::from(at).0),
+        Some(Stands::Segment) => Err(Refusal::BadRow),
+        Some(Stands::Event) => Err(Refusal::BadRow),
+        None => Err(Refusal::BadRow),
     }
 }

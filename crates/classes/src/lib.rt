@@ -5,15 +5,15 @@ mod classing;
 mod counting;
 
 pub use classing::class_answer;
-pub use counting::count_answer;
+pub use counting::{Counts, count_answer};
 
-// What a row shows at an instant.
-#[derive(Clone, Copy)]
+// What a row shows at an instant, in the order of the classes' numbers.
+#[derive(Clone, Copy, Debug, PartialEq, Eq)]
 pub enum Class {
-    Trading,
-    NotTrading,
-    NotKnown,
-    NotShown,
+    Trading = 1,
+    NotTrading = 2,
+    NotKnown = 3,
+    NotShown = 4,
 }
 
 // A number of document 01, 0 for an answer, and the class's number, 0 beside a refusal.

@@ -1,9 +1,9 @@
 -- A date's boundaries, one after the other, and the spans between them. Assumes nothing.
-use mathlib.Core.Path.{◌≡◌, refl, sym, ap, ap₂, ◌∙◌}
+use mathlib.Core.Path.{◌≡◌, refl, sym, ap, ap₂, ◌∙◌, subst}
 use mathlib.Core.Bool.{Bool, true, false, cond, ◌&&◌}
 use mathlib.Core.List.{List, [], ◌∷◌}
-use mathlib.Core.Option.{Option, none, some}
-use Prim.Native.Nat.{ℕ, zero, suc, ◌+◌, ◌-◌, ◌*◌, ◌≤◌, ◌<◌, min, max}
+use Rattle.std.specs.Prelude.{Option, None, Some}
+use Prim.Native.Nat.{ℕ, zero, suc, ◌+◌, ◌-◌, ◌≤◌, ◌<◌, max}
 use native.Mathlib.Nat.{not-suc-le-zero, le_of_suc-le-suc}
 use native.Mathlib.Decide.{dec_lt, ℕ_discrete}
 use native.Mathlib.Omega.{arith}
@@ -12,9 +12,8 @@ use lib.Dec.{ltb}
 use lib.ListN.{length, get_or, set, drop, drop_of_length-le, length-set}
 use lib.Seq.{drop-cons, drop-length}
 use Rattle.zone.specs.Zone.{Zone, resolve}
-use Rattle.calendar.specs.Answers.{last_day}
-use Rattle.zone.specs.Units.{day_ns, nearest_reading, reading_at}
-use Rattle.zone.specs.Answers.{taken, uncertain, boundary, boundary_at}
+use Rattle.zone.specs.Units.{nearest_reading, reading_at}
+use Rattle.zone.specs.Answers.{taken, uncertain, boundary_at}
 use Rattle.zone.specs.declared.Boundary.{Boundary}
 use Rattle.zone.specs.declared.Uncertainty.{Uncertainty}
 use Rattle.zone.specs.declared.Uncertainty.TheVariants.{Exact}
@@ -32,12 +31,6 @@ nowhere = record { at = record { 0 = 0 }; uncertainty = Exact }
 
 abbrev pub at : List Boundary → ℕ → Boundary
 at a i = get_or a i nowhere
-
--- whatever stands for what is past the end
-pub read : (a : List Boundary) (i : ℕ) (x : Boundary) → i < length a → get_or a i x ≡ at a i
-read [] i x h = absurd (not-suc-le-zero h)
-read (b ∷ a) zero x h = refl
-read (b ∷ a) (suc i) x h = read a i x (le_of_suc-le-suc h)
 
 pub set_here : (a : List Boundary) (i : ℕ) (b : Boundary) → i < length a → at (set a i b) i ≡ b
 set_here [] i b h = absurd (not-suc-le-zero h)
@@ -61,14 +54,13 @@ raise m own = record { at = record { 0 = max m own.at.0 }; uncertainty = own.unc
 abbrev pub past : ℕ → Boundary → Boundary → Bool
 past t s e = ltb s.at.0 e.at.0 && ltb t e.at.0
 
--- as the code tests it, on boundaries that were read
-pub tested_by : (a : List Boundary) (t k : ℕ) {s e : Boundary} {b c : Bool} → s ≡ at a k → e ≡ at a (k + 1) → b ≡ past t s e → b ≡ c
-    → past t (at a k) (at a (k + 1)) ≡ c
-tested_by a t k p q f g = ap₂ (past t) (sym p) (sym q) ∙ sym f ∙ g
+-- a converted time
+pub converted : (z : Zone) (d : ℕ) {x y : ℕ} {u w : Uncertainty} {b : Boundary} → b ≡ boundary_at z d x u → x ≡ y → u ≡ w → b ≡ boundary_at z d y w
+converted z d e p q = e ∙ ap₂ (boundary_at z d) p q
 
 module _ (z : Zone) (r : Rule) (d : ℕ) where
   abbrev pub v : Venue Held
-  v = venue_by z (λ x. none)
+  v = venue_by z (λ x. None)
 
   abbrev pub time_of : ℕ → ℕ
   time_of i = (get_or r.points i midnight).time
@@ -116,9 +108,9 @@ module _ (z : Zone) (r : Rule) (d : ℕ) where
   pub filled_first : (a : List Boundary) → length a ≡ suc base.points → at a 0 ≡ boundary_at z d (time_of 0) (published r.uncertainty) → EdgesFilled a 1
   filled_first a l e = record { long = l; some_in = omega arith; each = λ j h. let q : j ≡ 0 = omega arith in rw q (e ∙ own_first) }
 
-  pub filled_next : (a : List Boundary) (n m : ℕ) (b y : Boundary) → EdgesFilled a n → n < suc base.points → b ≡ raise m y → m ≡ (at a (n - 1)).at.0
-      → y ≡ boundary_at z d (time_of n) (published r.uncertainty) → EdgesFilled (set a n b) (n + 1)
-  filled_next a n m b y f h e p q =
+  pub filled_next : (a : List Boundary) (n : ℕ) (b y : Boundary) → EdgesFilled a n → n < suc base.points → y ≡ boundary_at z d (time_of n) (published r.uncertainty)
+      → b ≡ raise (at a (n - 1)).at.0 y → EdgesFilled (set a n b) (n + 1)
+  filled_next a n b y f h q e =
       record {
         long = length-set a n b ∙ f.long;
         some_in = omega arith;
@@ -129,7 +121,7 @@ module _ (z : Zone) (r : Rule) (d : ℕ) where
       stored l i =
           let k : n - 1 ≡ l = omega arith in
           e
-          ∙ ap₂ raise (p ∙ ap (λ (x : Boundary). x.at.0) (ap (at a) k ∙ f.each l (omega arith))) (q ∙ ap (λ (c : ℕ). boundary_at z d (time_of c) (published r.uncertainty)) i)
+          ∙ ap₂ raise (ap (λ (x : Boundary). x.at.0) (ap (at a) k ∙ f.each l (omega arith))) (q ∙ ap (λ (c : ℕ). boundary_at z d (time_of c) (published r.uncertainty)) i)
           ∙ own_next l
           ∙ ap (λ (c : ℕ). boundary_of z r (edge c)) (sym i)
 
@@ -137,32 +129,28 @@ module _ (z : Zone) (r : Rule) (d : ℕ) where
       go j l (yes i) = rw i (set_here a n b (omega (arith, f.long)) ∙ stored (n - 1) (omega (arith, f.some_in)))
       go j l (no i) = set_other a n j b i ∙ f.each j (omega arith)
 
-  -- and behind them the next midnight
-  pub record Ended (a : List Boundary) (n : ℕ) : Type 0 where
-    pub filled : EdgesFilled a n
-    pub end : at a n ≡ boundary_of z r (last (n - 1))
+  -- and behind them all the next midnight
+  pub record Ended (a : List Boundary) : Type 0 where
+    pub filled : EdgesFilled a (length r.points)
+    pub end : at a (length r.points) ≡ boundary_of z r (last (length r.points - 1))
 
-  pub ended : (a : List Boundary) (n m : ℕ) (b y : Boundary) → EdgesFilled a n → n < suc base.points → b ≡ raise m y → m ≡ (at a (n - 1)).at.0
-      → y ≡ boundary_at z (suc d) 0 (published r.uncertainty) → Ended (set a n b) n
-  ended a n m b y f h e p q =
+  pub ended : (a : List Boundary) (i n : ℕ) (b y : Boundary) → EdgesFilled a i → i ≡ n → n ≡ length r.points → n ≤ base.points
+      → y ≡ boundary_at z (suc d) 0 (published r.uncertainty) → b ≡ raise (at a (n - 1)).at.0 y → Ended (set a n b)
+  ended a i n b y f j k h q e =
       record {
         filled =
-            record {
+            subst (EdgesFilled (set a n b)) k
+            (record {
               long = length-set a n b ∙ f.long;
-              some_in = f.some_in;
-              each = λ j l. set_other a n j b (λ i. omega arith) ∙ f.each j l;
-            };
+              some_in = omega (arith, f.some_in);
+              each = λ m l. set_other a n m b (λ e. omega arith) ∙ f.each m (omega arith);
+            });
         end =
-            set_here a n b (omega (arith, f.long)) ∙ e
-            ∙ ap₂ raise (p ∙ ap (λ (x : Boundary). x.at.0) (f.each (n - 1) (omega (arith, f.some_in)))) q
-            ∙ own_last (n - 1);
+            subst (λ (m : ℕ). at (set a n b) m ≡ boundary_of z r (last (m - 1))) k
+            (set_here a n b (omega (arith, f.long)) ∙ e
+            ∙ ap₂ raise (ap (λ (x : Boundary). x.at.0) (f.each (n - 1) (omega (arith, f.some_in)))) q
+            ∙ own_last (n - 1));
       }
-
-  pub ended_at : {a : List Boundary} {n m : ℕ} → Ended a n → n ≡ m → Ended a m
-  ended_at w e = rw⁻¹ e w
-
-  pub filled_at : {a : List Boundary} {n m : ℕ} → EdgesFilled a n → n ≡ m → EdgesFilled a m
-  filled_at w e = rw⁻¹ e w
 
   -- ---- the spans from the point k on
 
@@ -181,11 +169,11 @@ module _ (z : Zone) (r : Rule) (d : ℕ) where
       go [] e = refl
       go (p ∷ ps) e = ap (λ (x : ℕ). cut v r (raised v 0 d x) p.phase ps) (sym (ap (λ (l : List Point). (get_or l 0 midnight).time) e))
 
-  after_keep : (t a b : ℕ) (x : Held) (rest : List (Span Held)) → after t (keep a b x rest) ≡ cond (ltb a b && ltb t b) (some x) (after t rest)
+  after_keep : (t a b : ℕ) (x : Held) (rest : List (Span Held)) → after t (keep a b x rest) ≡ cond (ltb a b && ltb t b) (Some x) (after t rest)
   unfolding after keep
   after_keep t a b x rest = go (ltb a b)
     where
-      go : (q : Bool) → after t (cond q (record { from = a; to = b; body = x } ∷ rest) rest) ≡ cond (q && ltb t b) (some x) (after t rest)
+      go : (q : Bool) → after t (cond q (record { from = a; to = b; body = x } ∷ rest) rest) ≡ cond (q && ltb t b) (Some x) (after t rest)
       go true = refl
       go false = refl
 
@@ -195,7 +183,7 @@ module _ (z : Zone) (r : Rule) (d : ℕ) where
   -- the span from the point k to an edge, if past t, or the rest
   abbrev span_to : ℕ → ℕ → Edge → Option Held → Option Held
   span_to t k e rest =
-      cond (past t (boundary_of z r (edge k)) (boundary_of z r e)) (some (record { start = boundary_of z r (edge k); end = boundary_of z r e; phase = phase_of k; rule = r })) rest
+      cond (past t (boundary_of z r (edge k)) (boundary_of z r e)) (Some (record { start = boundary_of z r (edge k); end = boundary_of z r e; phase = phase_of k; rule = r })) rest
 
   step : (t k : ℕ) (e : Edge) (rest : List (Span Held)) → after t (between v r (edge k) (phase_of k) e rest) ≡ span_to t k e (after t rest)
   step t k e rest = after_keep t (edge k).at e.at (v.body r (edge k) (phase_of k) e) rest
@@ -238,7 +226,7 @@ module _ (z : Zone) (r : Rule) (d : ℕ) where
 
   -- ---- what a scan of the array finds
 
-  module _ (a : List Boundary) (t : ℕ) (w : Ended a (length r.points)) where
+  module _ (a : List Boundary) (t : ℕ) (w : Ended a) where
     start_is : (k : ℕ) → k < length r.points → at a k ≡ boundary_of z r (edge k)
     start_is k h = w.filled.each k h
 
@@ -268,31 +256,20 @@ module _ (z : Zone) (r : Rule) (d : ℕ) where
     skipped (suc k) h f =
         let e = sym (tested_is k (omega arith)) ∙ f k (omega arith) in
         skipped k (omega arith) (λ j l. f j (omega arith)) ∙ one_left t k (omega arith)
-        ∙ ap (λ (b : Bool). cond b (some (body_of (length r.points) k)) (after t (left (suc k)))) e
+        ∙ ap (λ (b : Bool). cond b (Some (body_of (length r.points) k)) (after t (left (suc k)))) e
 
-    pub scan_found : (k : ℕ) → k < length r.points → ((j : ℕ) → j < k → tested j ≡ false) → tested k ≡ true
-        → after t (of_points v r d r.points) ≡ some (record { start = at a k; end = at a (k + 1); phase = phase_of k; rule = r })
-    scan_found k h f e =
-        skipped k (omega arith) f ∙ one_left t k h
-        ∙ ap (λ (b : Bool). cond b (some (body_of (length r.points) k)) (after t (left (suc k)))) (sym (tested_is k h) ∙ e)
-        ∙ ap₂ (λ (x y : Boundary). some (record { start = x; end = y; phase = phase_of k; rule = r })) (sym (start_is k h)) (sym (end_is k h))
+    pub scan_found : (k p : ℕ) → k < length r.points → ((j : ℕ) → j < k → tested j ≡ false) → tested k ≡ true → p ≡ phase_of k
+        → Some (record { start = at a k; end = at a (k + 1); phase = p; rule = r }) ≡ after t (of_points v r d r.points)
+    scan_found k p h f e q =
+        ap (λ (i : ℕ). Some (record { start = at a k; end = at a (k + 1); phase = i; rule = r })) q
+        ∙ sym
+        (skipped k (omega arith) f ∙ one_left t k h
+        ∙ ap (λ (b : Bool). cond b (Some (body_of (length r.points) k)) (after t (left (suc k)))) (sym (tested_is k h) ∙ e)
+        ∙ ap₂ (λ (x y : Boundary). Some (record { start = x; end = y; phase = phase_of k; rule = r })) (sym (start_is k h)) (sym (end_is k h)))
 
-    pub scan_answer : (k : ℕ) → k < length r.points → ((j : ℕ) → j < k → tested j ≡ false) → tested k ≡ true → {s e : Boundary} {p : ℕ}
-        → s ≡ at a k → e ≡ at a (k + 1)
-        → p ≡ phase_of k → some (record { start = s; end = e; phase = p; rule = r }) ≡ after t (of_points v r d r.points)
-    scan_answer k h f g {p = p} x y q =
-        ap₂ (λ (b c : Boundary). some (record { start = b; end = c; phase = p; rule = r })) x y
-        ∙ ap (λ (i : ℕ). some (record { start = at a k; end = at a (k + 1); phase = i; rule = r })) q
-        ∙ sym (scan_found k h f g)
-
-    pub scan_none : ((j : ℕ) → j < length r.points → tested j ≡ false) → after t (of_points v r d r.points) ≡ none
+    pub scan_none : ((j : ℕ) → j < length r.points → tested j ≡ false) → None ≡ after t (of_points v r d r.points)
     unfolding after
     scan_none f =
-        skipped (length r.points) (omega arith) f
-        ∙ ap (λ (l : List Point). after t (left_by (length r.points) l)) (drop-length r.points)
-
--- ---- past the dates in use all dates convert alike
-pub same_midnight : (z : Zone) (d : ℕ) (u : Uncertainty) → last_day + 6 ≤ d → boundary_at z d 0 u ≡ boundary_at z (suc d) 0 u
-same_midnight z d u h =
-    let e : min d (last_day + 6) ≡ min (suc d) (last_day + 6) = omega arith in
-    ap (λ (i : ℕ). boundary (resolve z (nearest_reading (i * day_ns + min 0 day_ns))) u) e
+        sym
+        (skipped (length r.points) (omega arith) f
+        ∙ ap (λ (l : List Point). after t (left_by (length r.points) l)) (drop-length r.points))

@@ -3,7 +3,7 @@ use mathlib.Core.Path.{◌≡◌, refl, sym, ap, ◌∙◌}
 use mathlib.Core.Logic.{◌⊎◌, inl, inr}
 use mathlib.Core.Bool.{Bool, true, false, cond, ◌&&◌, ◌||◌}
 use mathlib.Core.List.{List, [], ◌∷◌, map}
-use mathlib.Core.Option.{Option, none, some}
+use Rattle.std.specs.Prelude.{Option, None, Some}
 use Prim.Native.Nat.{ℕ, zero, suc, ◌≤◌, ◌<◌}
 use native.Mathlib.Nat.{le_of_suc-le-suc}
 use native.Mathlib.Decide.{ℕ_discrete}
@@ -80,24 +80,24 @@ higher_joined r q b = joined (precedence r.code) (day_of r.first) (precedence q.
 module _ {A : Type 0} (f : A → Rule) where
   -- what takes the place of the best so far applies
   takes_applies : (best : Option A) (r : A) (d : ℕ) → takes f best r d ≡ true → applies (f r) d ≡ true
-  takes_applies none r d e = e
-  takes_applies (some b) r d e = (and_true (applies (f r) d) (not_lower (f r) (f b)) e).0
+  takes_applies None r d e = e
+  takes_applies (Some b) r d e = (and_true (applies (f r) d) (not_lower (f r) (f b)) e).0
 
   -- one that applies and does not take it is lower
-  stays : (b r : A) (d : ℕ) → takes f (some b) r d ≡ false → applies (f r) d ≡ true → not_lower (f r) (f b) ≡ false
+  stays : (b r : A) (d : ℕ) → takes f (Some b) r d ≡ false → applies (f r) d ≡ true → not_lower (f r) (f b) ≡ false
   stays b r d e a = simp a at e
 
   -- what takes it is not lower than one that applies and does not
   takes_above : (best : Option A) (r q : A) (d : ℕ) → takes f best r d ≡ true → takes f best q d ≡ false → applies (f q) d ≡ true
       → not_lower (f r) (f q) ≡ true
-  takes_above none r q d t e a = let z : ◌≡◌ {A = Bool} true false = sym a ∙ e in cc
-  takes_above (some b) r q d t e a =
+  takes_above None r q d t e a = let z : ◌≡◌ {A = Bool} true false = sym a ∙ e in cc
+  takes_above (Some b) r q d t e a =
       higher_joined (f r) (f b) (f q) (and_true (applies (f r) d) (not_lower (f r) (f b)) t).1 (higher_turned (f q) (f b) (stays b q d e a))
 
   -- what takes it from one that took it would have taken it itself
-  takes_after : (best : Option A) (q r : A) (d : ℕ) → takes f best q d ≡ true → takes f (some q) r d ≡ true → takes f best r d ≡ true
-  takes_after none q r d t u = (and_true (applies (f r) d) (not_lower (f r) (f q)) u).0
-  takes_after (some b) q r d t u =
+  takes_after : (best : Option A) (q r : A) (d : ℕ) → takes f best q d ≡ true → takes f (Some q) r d ≡ true → takes f best r d ≡ true
+  takes_after None q r d t u = (and_true (applies (f r) d) (not_lower (f r) (f q)) u).0
+  takes_after (Some b) q r d t u =
       let x = and_true (applies (f r) d) (not_lower (f r) (f q)) u in
       simp x.0 (higher_joined (f r) (f q) (f b) x.1 (and_true (applies (f q) d) (not_lower (f q) (f b)) t).1)
 
@@ -105,22 +105,22 @@ module _ {A : Type 0} (f : A → Rule) where
 
   -- nothing of the list takes the place of the best so far, or what governs in the list does
   data Outcome (best : Option A) (rs : List A) (d : ℕ) : Option A → Type 0 where
-    kept : ((i : ℕ) (q : A) → nth rs i ≡ some q → takes f best q d ≡ false) → Outcome best rs d best
-    taken : (r : A) → Governs f rs d r → takes f best r d ≡ true → Outcome best rs d (some r)
+    kept : ((i : ℕ) (q : A) → nth rs i ≡ Some q → takes f best q d ≡ false) → Outcome best rs d best
+    taken : (r : A) → Governs f rs d r → takes f best r d ≡ true → Outcome best rs d (Some r)
 
-  same_some : {a b : A} → ◌≡◌ {A = Option A} (some a) (some b) → a ≡ b
+  same_some : {a b : A} → ◌≡◌ {A = Option A} (Some a) (Some b) → a ≡ b
   same_some {a} {b} e = ap the e
     where
       the : Option A → A
-      the none = a
-      the (some r) = r
+      the None = a
+      the (Some r) = r
 
-  not_none : {P : Type 0} {a : A} → ◌≡◌ {A = Option A} none (some a) → P
+  not_none : {P : Type 0} {a : A} → ◌≡◌ {A = Option A} None (Some a) → P
   not_none e = let z : ◌≡◌ {A = ℕ} 0 1 = ap holds e in absurd (omega arith)
     where
       holds : Option A → ℕ
-      holds none = 0
-      holds (some r) = 1
+      holds None = 0
+      holds (Some r) = 1
 
   not_both : {P : Type 0} {a : Bool} → a ≡ true → a ≡ false → P
   not_both e f = let z : ◌≡◌ {A = Bool} true false = sym e ∙ f in absurd (let y : ◌≡◌ {A = ℕ} 0 1 = cc in omega arith)
@@ -128,14 +128,14 @@ module _ {A : Type 0} (f : A → Rule) where
   -- one more at the front
   module _ (q : A) (rs : List A) (d : ℕ) where
     -- none of the rest is as high
-    first_governs : applies (f q) d ≡ true → ((i : ℕ) (p : A) → nth rs i ≡ some p → takes f (some q) p d ≡ false) → Governs f (q ∷ rs) d q
+    first_governs : applies (f q) d ≡ true → ((i : ℕ) (p : A) → nth rs i ≡ Some p → takes f (Some q) p d ≡ false) → Governs f (q ∷ rs) d q
     first_governs a h = record { place = 0; listed = refl; on = a; highest = highest; last = last }
       where
-        highest : (i : ℕ) (p : A) → nth (q ∷ rs) i ≡ some p → applies (f p) d ≡ true → not_lower (f q) (f p) ≡ true
+        highest : (i : ℕ) (p : A) → nth (q ∷ rs) i ≡ Some p → applies (f p) d ≡ true → not_lower (f q) (f p) ≡ true
         highest zero p e b = rw⁻¹ (same_some e) (higher_self (f q))
         highest (suc i) p e b = higher_turned (f p) (f q) (stays q p d (h i p e) b)
 
-        last : (i : ℕ) (p : A) → 0 < i → nth (q ∷ rs) i ≡ some p → applies (f p) d ≡ true → not_lower (f p) (f q) ≡ false
+        last : (i : ℕ) (p : A) → 0 < i → nth (q ∷ rs) i ≡ Some p → applies (f p) d ≡ true → not_lower (f p) (f q) ≡ false
         last zero p l e b = absurd (omega arith)
         last (suc i) p l e b = stays q p d (h i p e) b
 
@@ -143,57 +143,57 @@ module _ {A : Type 0} (f : A → Rule) where
     rest_governs : (r : A) → Governs f rs d r → (applies (f q) d ≡ true → not_lower (f r) (f q) ≡ true) → Governs f (q ∷ rs) d r
     rest_governs r g h = record { place = suc g.place; listed = g.listed; on = g.on; highest = highest; last = last }
       where
-        highest : (i : ℕ) (p : A) → nth (q ∷ rs) i ≡ some p → applies (f p) d ≡ true → not_lower (f r) (f p) ≡ true
+        highest : (i : ℕ) (p : A) → nth (q ∷ rs) i ≡ Some p → applies (f p) d ≡ true → not_lower (f r) (f p) ≡ true
         highest zero p e b = rw⁻¹ (same_some e) (h (ap (λ (x : A). applies (f x) d) (same_some e) ∙ b))
         highest (suc i) p e b = g.highest i p e b
 
-        last : (i : ℕ) (p : A) → suc g.place < i → nth (q ∷ rs) i ≡ some p → applies (f p) d ≡ true → not_lower (f p) (f r) ≡ false
+        last : (i : ℕ) (p : A) → suc g.place < i → nth (q ∷ rs) i ≡ Some p → applies (f p) d ≡ true → not_lower (f p) (f r) ≡ false
         last zero p l e b = absurd (omega arith)
         last (suc i) p l e b = g.last i p (le_of_suc-le-suc l) e b
 
     kept_first : (best : Option A) {now : Option A} → takes f best q d ≡ false → Outcome best rs d now → Outcome best (q ∷ rs) d now
     kept_first best t (kept h) = kept go
       where
-        go : (i : ℕ) (p : A) → nth (q ∷ rs) i ≡ some p → takes f best p d ≡ false
+        go : (i : ℕ) (p : A) → nth (q ∷ rs) i ≡ Some p → takes f best p d ≡ false
         go zero p e = ap (λ (x : A). takes f best x d) (sym (same_some e)) ∙ t
         go (suc i) p e = h i p e
     kept_first best t (taken r g u) = taken r (rest_governs r g (takes_above best r q d u t)) u
 
-    taken_first : (best : Option A) {now : Option A} → takes f best q d ≡ true → Outcome (some q) rs d now → Outcome best (q ∷ rs) d now
+    taken_first : (best : Option A) {now : Option A} → takes f best q d ≡ true → Outcome (Some q) rs d now → Outcome best (q ∷ rs) d now
     taken_first best t (kept h) = taken q (first_governs (takes_applies best q d t) h) t
     taken_first best t (taken r g u) = taken r (rest_governs r g (λ a. (and_true (applies (f r) d) (not_lower (f r) (f q)) u).1)) (takes_after best q r d t u)
 
   outcome : (best : Option A) (rs : List A) (d : ℕ) → Outcome best rs d (governing_from f best rs d)
   unfolding governing_from
   outcome best [] d = kept (λ i q e. not_none e)
-  outcome best (q ∷ rs) d = go (takes f best q d) refl (outcome best rs d) (outcome (some q) rs d)
+  outcome best (q ∷ rs) d = go (takes f best q d) refl (outcome best rs d) (outcome (Some q) rs d)
     where
-      go : (t : Bool) → takes f best q d ≡ t → Outcome best rs d (governing_from f best rs d) → Outcome (some q) rs d (governing_from f (some q) rs d)
-          → Outcome best (q ∷ rs) d (governing_from f (cond t (some q) best) rs d)
+      go : (t : Bool) → takes f best q d ≡ t → Outcome best rs d (governing_from f best rs d) → Outcome (Some q) rs d (governing_from f (Some q) rs d)
+          → Outcome best (q ∷ rs) d (governing_from f (cond t (Some q) best) rs d)
       go true t a b = taken_first q rs d best t b
       go false t a b = kept_first q rs d best t a
 
   -- ---- the laws
 
   module _ (rs : List A) (d : ℕ) where
-    pub governs : (r : A) → governing_of f rs d ≡ some r → Governs f rs d r
-    governs r e = go (outcome none rs d) e
+    pub governs : (r : A) → governing_of f rs d ≡ Some r → Governs f rs d r
+    governs r e = go (outcome None rs d) e
       where
-        go : {now : Option A} → Outcome none rs d now → now ≡ some r → Governs f rs d r
+        go : {now : Option A} → Outcome None rs d now → now ≡ Some r → Governs f rs d r
         go (kept h) z = not_none z
         go (taken q g t) z = rw (sym (same_some z)) g
 
-    pub none_governs : governing_of f rs d ≡ none → (i : ℕ) (q : A) → nth rs i ≡ some q → applies (f q) d ≡ false
-    none_governs e i q l = go (outcome none rs d) e
+    pub none_governs : governing_of f rs d ≡ None → (i : ℕ) (q : A) → nth rs i ≡ Some q → applies (f q) d ≡ false
+    none_governs e i q l = go (outcome None rs d) e
       where
-        go : {now : Option A} → Outcome none rs d now → now ≡ none → applies (f q) d ≡ false
+        go : {now : Option A} → Outcome None rs d now → now ≡ None → applies (f q) d ≡ false
         go (kept h) z = h i q l
         go (taken r g t) z = not_none (sym z)
 
-    pub governs_none : ((i : ℕ) (q : A) → nth rs i ≡ some q → applies (f q) d ≡ false) → governing_of f rs d ≡ none
-    governs_none h = go (outcome none rs d)
+    pub governs_none : ((i : ℕ) (q : A) → nth rs i ≡ Some q → applies (f q) d ≡ false) → governing_of f rs d ≡ None
+    governs_none h = go (outcome None rs d)
       where
-        go : {now : Option A} → Outcome none rs d now → now ≡ none
+        go : {now : Option A} → Outcome None rs d now → now ≡ None
         go (kept k) = refl
         go (taken r g t) = not_both g.on (h g.place r g.listed)
 
@@ -207,34 +207,34 @@ module _ {A : Type 0} (f : A → Rule) where
         same_place : g.place ≡ k.place
         same_place = let a = not_later r q g k in let b = not_later q r k g in omega arith
 
-    pub governed_by : (r : A) → Governs f rs d r → governing_of f rs d ≡ some r
-    governed_by r g = go (outcome none rs d)
+    pub governed_by : (r : A) → Governs f rs d r → governing_of f rs d ≡ Some r
+    governed_by r g = go (outcome None rs d)
       where
-        go : {now : Option A} → Outcome none rs d now → now ≡ some r
+        go : {now : Option A} → Outcome None rs d now → now ≡ Some r
         go (kept h) = not_both g.on (h g.place r g.listed)
-        go (taken q k t) = ap some (governs_once q r k g)
+        go (taken q k t) = ap Some (governs_once q r k g)
 
 -- ---- what is chosen has the rule that is chosen among the rules
 
 abbrev pub its_rule : {A : Type 0} → (A → Rule) → Option A → Option Rule
-its_rule f none = none
-its_rule f (some x) = some (f x)
+its_rule f None = None
+its_rule f (Some x) = Some (f x)
 
 module _ {A : Type 0} (f : A → Rule) (d : ℕ) where
   same_takes : (best : Option A) (x : A) → takes f best x d ≡ takes (λ (r : Rule). r) (its_rule f best) (f x) d
-  same_takes none x = refl
-  same_takes (some b) x = refl
+  same_takes None x = refl
+  same_takes (Some b) x = refl
 
   rule_from : (best : Option A) (xs : List A) → its_rule f (governing_from f best xs d) ≡ governing_from (λ (r : Rule). r) (its_rule f best) (map f xs) d
   unfolding governing_from
   rule_from best [] = refl
   rule_from best (x ∷ xs) =
-      rule_from (cond (takes f best x d) (some x) best) xs
+      rule_from (cond (takes f best x d) (Some x) best) xs
       ∙ ap (λ (o : Option Rule). governing_from (λ (r : Rule). r) o (map f xs) d) (go (takes f best x d) (same_takes best x))
     where
-      go : (t : Bool) {u : Bool} → t ≡ u → its_rule f (cond t (some x) best) ≡ cond u (some (f x)) (its_rule f best)
+      go : (t : Bool) {u : Bool} → t ≡ u → its_rule f (cond t (Some x) best) ≡ cond u (Some (f x)) (its_rule f best)
       go true e = rw⁻¹ e
       go false e = rw⁻¹ e
 
   pub governing_rule_law : (xs : List A) → its_rule f (governing_of f xs d) ≡ governing_rule (map f xs) d
-  governing_rule_law xs = rule_from none xs
+  governing_rule_law xs = rule_from None xs

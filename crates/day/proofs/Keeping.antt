@@ -1,4 +1,5 @@
 -- The rules that are kept: none at first, then those near a date. Assumes nothing.
+use Rattle.std.specs.Prelude.{Option}
 use mathlib.Core.Path.{◌≡◌, refl, sym, ap, ap₂, ◌∙◌, subst}
 use mathlib.Core.Bool.{Bool, true, false, ◌||◌}
 use mathlib.Core.List.{List, [], ◌∷◌, ◌++◌, map, append-nil}
@@ -18,8 +19,7 @@ use Rattle.venue.specs.Reading.{ListedRules}
 use Rattle.day.specs.Governing.{governing_rule, governing_place}
 use Rattle.day.specs.Narrowing.{near_of}
 use Rattle.day.specs.Keeping.{first_day, day_behind, kept_places, stretch, kept_numbers, kept_after, Keeps, KeepsFor, kept_from}
-use Rattle.day.specs.Meaning.{ruled, place_of, ListedGoverned}
-use Rattle.day.specs.declared.Governed.{Governed}
+use Rattle.day.specs.Meaning.{ruled, ListedGoverned}
 use Rattle.day.proofs.Narrowing.{near_governing, near_few, near_listed}
 use Rattle.day.proofs.Choosing.{placed}
 
@@ -123,8 +123,8 @@ module _ {s rules a : List ℕ} where
   part_listed k = subst (ListedRules s) (sym (part_is a)) k.listed
 
   -- what they choose
-  pub part_chosen : {d : ℕ} → KeepsFor s rules d a → (r : Governed) → ListedGoverned s r → place_of r ≡ governing_place s (part a) d
-      → (ruled s r ≡ governing_rule (map (rule_at s) rules) d) × ListedGoverned s r × (place_of r ≡ governing_place s rules d)
+  pub part_chosen : {d : ℕ} → KeepsFor s rules d a → (r : Option ℕ) → ListedGoverned s r → r ≡ governing_place s (part a) d
+      → (ruled s r ≡ governing_rule (map (rule_at s) rules) d) × ListedGoverned s r × (r ≡ governing_place s rules d)
   part_chosen {d} k r h e =
       let is = e ∙ ap (λ (ps : List ℕ). governing_place s ps d) (part_is a) ∙ k.keeps.same d k.from k.before in
       (placed s rules d r is, h, is)

@@ -3,7 +3,7 @@ use mathlib.Core.Path.{◌≡◌, refl, sym, ap, subst, ◌∙◌}
 use mathlib.Core.Logic.{◌⊎◌, inl, inr}
 use mathlib.Core.Bool.{Bool, true, false, cond}
 use mathlib.Core.List.{List, [], ◌∷◌, map}
-use mathlib.Core.Option.{Option, none, some}
+use Rattle.std.specs.Prelude.{Option, None, Some}
 use Prim.Native.Nat.{ℕ, zero, suc, ◌≤◌, ◌<◌}
 use native.Mathlib.Omega.{arith}
 use lib.Dec.{ltb}
@@ -30,19 +30,19 @@ pub record Source (s : List ℕ) (r : Rule) : Type 0 where
   pub listed : ListedRule s place
   pub is : rule_at s place ≡ r
 
-from_places : {A : Type 0} (f : ℕ → A) (ps : List ℕ) (i : ℕ) (r : A) → nth (map f ps) i ≡ some r → (i < length ps) × (f (get_or ps i 0) ≡ r)
+from_places : {A : Type 0} (f : ℕ → A) (ps : List ℕ) (i : ℕ) (r : A) → nth (map f ps) i ≡ Some r → (i < length ps) × (f (get_or ps i 0) ≡ r)
 from_places f [] i r e = absurd (let z : ◌≡◌ {A = ℕ} 0 1 = cc in omega arith)
 from_places f (p ∷ ps) zero r e = (omega arith, cc)
 from_places f (p ∷ ps) (suc i) r e = let on = from_places f ps i r e in (omega arith, on.1)
 
 -- of rules at listed places, and of an accepted book's
-pub governing_source : (s rules : List ℕ) → ListedRules s rules → (d : ℕ) (r : Rule) → governing_rule (map (rule_at s) rules) d ≡ some r → Source s r
+pub governing_source : (s rules : List ℕ) → ListedRules s rules → (d : ℕ) (r : Rule) → governing_rule (map (rule_at s) rules) d ≡ Some r → Source s r
 governing_source s rules listed d r g =
     let k = governs (λ (x : Rule). x) (map (rule_at s) rules) d r g in
     let on = from_places (rule_at s) rules k.place r k.listed in
     record { place = get_or rules k.place 0; listed = listed k.place on.0; is = on.1 }
 
-pub governing_listed : (s : List ℕ) → refusal base s ≡ 0 → (d : ℕ) (r : Rule) → governing_rule (rules_of (records s)) d ≡ some r → Source s r
+pub governing_listed : (s : List ℕ) → refusal base s ≡ 0 → (d : ℕ) (r : Rule) → governing_rule (rules_of (records s)) d ≡ Some r → Source s r
 governing_listed s e d r g =
     governing_source s (rule_places s) (places_listed rule_kind s e) d r (ap (λ (rs : List Rule). governing_rule rs d) (rules_listed s e) ∙ g)
 
@@ -93,10 +93,10 @@ module _ (z : Zone) (g : ℕ → Option Rule) (x : Span Held) where
   points_under r d [] e i = absurd i
   points_under r d (p ∷ ps) e i = cut_under r (raised v 0 d p.time) p.phase ps e.1 e.2 i
 
-  pub span_under : (d : ℕ) → ((r : Rule) → g d ≡ some r → EachPoint r.points) → In x (spans v d) → (r : Rule) × (g d ≡ some r) × Under r x.body
+  pub span_under : (d : ℕ) → ((r : Rule) → g d ≡ Some r → EachPoint r.points) → In x (spans v d) → (r : Rule) × (g d ≡ Some r) × Under r x.body
   unfolding spans
   span_under d each = go (g d) refl
     where
-      go : (o : Option Rule) → g d ≡ o → In x (of_rule v d o) → (r : Rule) × (g d ≡ some r) × Under r x.body
-      go none e i = absurd i
-      go (some r) e i = (r, e, points_under r d r.points (each r e) i)
+      go : (o : Option Rule) → g d ≡ o → In x (of_rule v d o) → (r : Rule) × (g d ≡ Some r) × Under r x.body
+      go None e i = absurd i
+      go (Some r) e i = (r, e, points_under r d r.points (each r e) i)

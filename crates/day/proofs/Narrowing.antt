@@ -2,7 +2,7 @@
 use mathlib.Core.Path.{◌≡◌, refl, sym, ap, ◌∙◌}
 use mathlib.Core.Bool.{Bool, true, false, cond, and-false}
 use mathlib.Core.List.{List, [], ◌∷◌}
-use mathlib.Core.Option.{Option, none, some}
+use Rattle.std.specs.Prelude.{Option, None, Some}
 use Prim.Native.Nat.{ℕ, zero, suc, ◌+◌, ◌≤◌, ◌<◌}
 use native.Mathlib.Nat.{le_of_suc-le-suc}
 use native.Mathlib.Numerals.{add-one}
@@ -35,8 +35,8 @@ module _ (r : Rule) {from to d : ℕ} (l : from ≤ d) (h : d ≤ to) where
 
 module _ (s : List ℕ) {from to d : ℕ} (l : from ≤ d) (h : d ≤ to) where
   never_takes : (best : Option ℕ) (p : ℕ) → meets (rule_at s p) from to ≡ false → takes (rule_at s) best p d ≡ false
-  never_takes none p e = not_on (rule_at s p) l h e
-  never_takes (some b) p e = simp (not_on (rule_at s p) l h e)
+  never_takes None p e = not_on (rule_at s p) l h e
+  never_takes (Some b) p e = simp (not_on (rule_at s p) l h e)
 
   near_from : (best : Option ℕ) (ps : List ℕ) → governing_from (rule_at s) best (near_of s ps from to) d ≡ governing_from (rule_at s) best ps d
   unfolding governing_from near_of
@@ -46,13 +46,13 @@ module _ (s : List ℕ) {from to d : ℕ} (l : from ≤ d) (h : d ≤ to) where
       go : ((b : Option ℕ) → governing_from (rule_at s) b (near_of s ps from to) d ≡ governing_from (rule_at s) b ps d)
           → (q : Bool) → meets (rule_at s p) from to ≡ q
           → governing_from (rule_at s) best (cond q (p ∷ near_of s ps from to) (near_of s ps from to)) d
-          ≡ governing_from (rule_at s) (cond (takes (rule_at s) best p d) (some p) best) ps d
-      go more true q = more (cond (takes (rule_at s) best p d) (some p) best)
-      go more false q = more best ∙ ap (λ (t : Bool). governing_from (rule_at s) (cond t (some p) best) ps d) (sym (never_takes best p q))
+          ≡ governing_from (rule_at s) (cond (takes (rule_at s) best p d) (Some p) best) ps d
+      go more true q = more (cond (takes (rule_at s) best p d) (Some p) best)
+      go more false q = more best ∙ ap (λ (t : Bool). governing_from (rule_at s) (cond t (Some p) best) ps d) (sym (never_takes best p q))
 
   -- on a day from `from` to `to` the rules near it choose as all do
   pub near_governing : (ps : List ℕ) → governing_place s (near_of s ps from to) d ≡ governing_place s ps d
-  near_governing ps = near_from none ps
+  near_governing ps = near_from None ps
 
 -- ---- the places
 

@@ -3,7 +3,7 @@ use mathlib.Core.Path.{◌≡◌, ap₂}
 use mathlib.Core.Logic.{◌⊎◌, inl, inr}
 use mathlib.Core.Bool.{Bool, true, false, cond}
 use mathlib.Core.List.{List, [], ◌∷◌, ◌++◌}
-use mathlib.Core.Option.{Option, none, some}
+use Rattle.std.specs.Prelude.{Option, None, Some}
 use Prim.Native.Nat.{ℕ, suc, ◌-◌, ◌≤◌, ◌<◌}
 use native.Mathlib.Omega.{arith}
 use Rattle.zone.specs.Zone.{Zone, date_at}
@@ -20,7 +20,7 @@ pub point_agrees : (z : Zone) (g h : ℕ → Option Rule) (c : Part) (t : ℕ) �
 unfolding point_at
 point_agrees z g h c t a b e =
     let d = date_at z t in
-    ap₂ (λ (x y : List (Span Held)). cond (inside c t) (look (λ (q : Held). q) (x ++ y) t) none) (spans_same z g h (d - 1) a)
+    ap₂ (λ (x y : List (Span Held)). cond (inside c t) (look (λ (q : Held). q) (x ++ y) t) None) (spans_same z g h (d - 1) a)
     (ap₂ ◌++◌ (spans_same z g h d b) (spans_same z g h (suc d) e))
 
 in_append : {A : Type 0} (s : Span A) (xs ys : List (Span A)) → In s (xs ++ ys) → In s xs ⊎ In s ys
@@ -45,11 +45,11 @@ pub record Whole (v : Values) (t : ℕ) (h : Held) : Type 0 where
   pub begun : span.from ≤ t
   pub going : t < span.to
 
-pub point_whole : (v : Values) (t : ℕ) (h : Held) → point_of v t ≡ some h → Whole v t h
+pub point_whole : (v : Values) (t : ℕ) (h : Held) → point_of v t ≡ Some h → Whole v t h
 unfolding point_at
 point_whole v t h e = go (inside v.coverage t) e
   where
-    none_some : none ≡ some h → ⊥
+    none_some : None ≡ Some h → ⊥
     none_some q = let y : ◌≡◌ {A = ℕ} 0 1 = cc in omega arith
 
     later : (s : Span Held) → s.body ≡ h → s.from ≤ t → t < s.to
@@ -62,7 +62,7 @@ point_whole v t h e = go (inside v.coverage t) e
     first s b f l (inl i) = record { date = date_at v.zone t - 1; span = s; one = i; is = b; begun = f; going = l }
     first s b f l (inr i) = later s b f l (in_append s (spans (venue_of v) (date_at v.zone t)) (spans (venue_of v) (suc (date_at v.zone t))) i)
 
-    go : (q : Bool) → cond q (look (λ (x : Held). x) (looked v t) t) none ≡ some h → Whole v t h
+    go : (q : Bool) → cond q (look (λ (x : Held). x) (looked v t) t) None ≡ Some h → Whole v t h
     go true q =
         let f = look_found (λ (x : Held). x) t h (looked v t) q in
         first f.0 f.2 f.3 f.4 (in_append f.0 (spans (venue_of v) (date_at v.zone t - 1)) (spans (venue_of v) (date_at v.zone t) ++ spans (venue_of v) (suc (date_at v.zone t))) f.1)

@@ -1,6 +1,6 @@
 -- A venue's values, a date's spans, and the point: document 01, phase rules 2 and 3. Assumes nothing.
 use Rattle.std.specs.Prelude.{ℕ, suc, ◌-◌, cond, Bool, true, false, List, [], ◌∷◌, ltb}
-use Rattle.std.proofs.Math.Option.{Option, none, some}
+use Rattle.std.specs.Prelude.{Option, None, Some}
 use Rattle.zone.specs.Zone.{Zone, zone_of, date_at, resolve}
 use Rattle.zone.specs.Units.{nearest_reading, reading_at, instant_of}
 use Rattle.zone.specs.Answers.{taken, uncertain, widest_of}
@@ -62,13 +62,13 @@ whole h = widest_of h.start.uncertainty h.end.uncertainty
 
 -- the first of the spans that ends after t
 unfoldable pub after : {A : Type 0} → ℕ → List (Span A) → Option A
-after t [] = none
-after t (s ∷ ss) = cond (ltb t s.to) (some s.body) (after t ss)
+after t [] = None
+after t (s ∷ ss) = cond (ltb t s.to) (Some s.body) (after t ss)
 
 -- a span of the date holds t
 abbrev pub is_known : {A : Type 0} → Option A → Bool
-is_known none = false
-is_known (some x) = true
+is_known None = false
+is_known (Some x) = true
 
 abbrev pub holds_on : {A : Type 0} → Venue A → ℕ → ℕ → Bool
 holds_on {A} v t d = is_known (look (λ (x : A). x) (spans v d) t)

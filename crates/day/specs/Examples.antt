@@ -1,6 +1,6 @@
 -- Document 01's starred point answer, computed from a book's bytes. Assumes nothing.
 use Rattle.std.specs.Prelude.{ℕ, ◌*◌, ◌≡◌, refl, List, [], ◌∷◌, ℤ, pos}
-use Rattle.std.proofs.Math.Option.{Option, none, some}
+use Rattle.std.specs.Prelude.{Option, None, Some}
 use Rattle.wire.specs.Fields.{field, bytes, laid}
 use Rattle.wire.specs.Signs.{meant}
 use Rattle.zone.specs.Units.{second_ns, instant_number, instant_of}
@@ -42,14 +42,14 @@ accepted = refl
 
 -- the point answer of the bytes of a book, as the numbers of its start and its end
 abbrev answered : Option Held → Option (ℤ × ℤ)
-answered none = none
-answered (some h) = some (instant_number h.start.at.0, instant_number h.end.at.0)
+answered None = None
+answered (Some h) = Some (instant_number h.start.at.0, instant_number h.end.at.0)
 
 abbrev pub point_in : List ℕ → Option Coverage → ℤ → Option (ℤ × ℤ)
-point_in s none n = none
-point_in s (some c) n = answered (point_of (values_of (records s) c) (instant_of n))
+point_in s None n = None
+point_in s (Some c) n = answered (point_of (values_of (records s) c) (instant_of n))
 
 -- * the point answer at 1,767,654,600 s is 1,767,571,200 to 1,767,655,800
-pub starred : point_in bytes_of (coverage_of (records bytes_of)) (pos (1767654600 * second_ns)) ≡ some (pos (1767571200 * second_ns), pos (1767655800 * second_ns))
+pub starred : point_in bytes_of (coverage_of (records bytes_of)) (pos (1767654600 * second_ns)) ≡ Some (pos (1767571200 * second_ns), pos (1767655800 * second_ns))
 unfolding field bytes laid meant body encode encode_all points_at times_at records_from records transitions_of rules_of events_of last_offset resolve keep look cut spans point_at governing_from
 starred = refl

@@ -1,6 +1,6 @@
 -- Which rule governs a date: document 01, phase rule 1. Dates are numbers since 1899-12-25. Assumes nothing.
 use Rattle.std.specs.Prelude.{ℕ, zero, suc, ◌/◌, ◌%◌, ◌^◌, ◌<◌, ◌≡◌, Bool, true, false, not, cond, ◌&&◌, ◌||◌, List, [], ◌∷◌, ltb, leb, eqb}
-use Rattle.std.proofs.Math.Option.{Option, none, some}
+use Rattle.std.specs.Prelude.{Option, None, Some}
 use Rattle.calendar.specs.Answers.{weekday_of}
 use Rattle.records.specs.Records.{Rule, rule_at}
 use Rattle.venue.specs.Opening.{day_of}
@@ -30,16 +30,16 @@ not_lower r b =
 
 -- x takes the place of the best so far
 abbrev pub takes : {A : Type 0} → (A → Rule) → Option A → A → ℕ → Bool
-takes f none x d = applies (f x) d
-takes f (some b) x d = applies (f x) d && not_lower (f x) (f b)
+takes f None x d = applies (f x) d
+takes f (Some b) x d = applies (f x) d && not_lower (f x) (f b)
 
 unfoldable pub governing_from : {A : Type 0} → (A → Rule) → Option A → List A → ℕ → Option A
 governing_from f best [] d = best
-governing_from f best (x ∷ xs) d = governing_from f (cond (takes f best x d) (some x) best) xs d
+governing_from f best (x ∷ xs) d = governing_from f (cond (takes f best x d) (Some x) best) xs d
 
 -- the highest that applies, the last listed of those that tie
 abbrev pub governing_of : {A : Type 0} → (A → Rule) → List A → ℕ → Option A
-governing_of f xs d = governing_from f none xs d
+governing_of f xs d = governing_from f None xs d
 
 -- the rule that governs a date, and where it stands, of those at the places of a book
 abbrev pub governing_rule : List Rule → ℕ → Option Rule
@@ -51,14 +51,14 @@ governing_place s places d = governing_of (rule_at s) places d
 -- ---- what governing means
 
 abbrev pub nth : {A : Type 0} → List A → ℕ → Option A
-nth [] i = none
-nth (x ∷ xs) zero = some x
+nth [] i = None
+nth (x ∷ xs) zero = Some x
 nth (x ∷ xs) (suc i) = nth xs i
 
 -- its rule applies, no applying rule is higher, and of those listed after it none that applies is as high
 pub record Governs {A : Type 0} (f : A → Rule) (xs : List A) (d : ℕ) (x : A) : Type 0 where
   pub place : ℕ
-  pub listed : nth xs place ≡ some x
+  pub listed : nth xs place ≡ Some x
   pub on : applies (f x) d ≡ true
-  pub highest : (i : ℕ) (y : A) → nth xs i ≡ some y → applies (f y) d ≡ true → not_lower (f x) (f y) ≡ true
-  pub last : (i : ℕ) (y : A) → place < i → nth xs i ≡ some y → applies (f y) d ≡ true → not_lower (f y) (f x) ≡ false
+  pub highest : (i : ℕ) (y : A) → nth xs i ≡ Some y → applies (f y) d ≡ true → not_lower (f x) (f y) ≡ true
+  pub last : (i : ℕ) (y : A) → place < i → nth xs i ≡ Some y → applies (f y) d ≡ true → not_lower (f y) (f x) ≡ false

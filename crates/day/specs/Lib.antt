@@ -4,3 +4,4 @@ pub mod Keeping
 pub mod Days
 pub mod Meaning
 pub mod Examples
+pub mod Venues

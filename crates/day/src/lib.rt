@@ -15,13 +15,6 @@ pub use narrow::near;
 pub use resolve::{day_segment_after, resolve_phase};
 use zone::Boundary;
 
-// The rule that governs a date, by where it stands in the book.
-#[derive(Clone, Copy)]
-pub enum Governed {
-    Nothing,
-    By(u32),
-}
-
 // A whole span of a date: its two boundaries, its phase, and its rule by where it stands in the book.
 #[derive(Clone, Copy)]
 pub struct DaySegment {
@@ -29,11 +22,4 @@ pub struct DaySegment {
     pub end: Boundary,
     pub phase: u8,
     pub rule: u32,
-}
-
-// A span, where there is one. As a point's answer: known, or not.
-#[derive(Clone, Copy)]
-pub enum Spanned {
-    Missing,
-    Whole(DaySegment),
 }

@@ -1,11 +1,12 @@
 -- What is collected are the events found, each with its place. Assumes nothing.
+use Rattle.std.specs.Prelude.{None, Option, Some, ℕ}
 use Prim.Native.Nat.{ℕ, zero, suc, ◌+◌, ◌-◌, ◌≤◌, ◌<◌}
 use mathlib.Core.Path.{◌≡◌, refl, sym, ap, ap₂, subst, ◌∙◌}
 use mathlib.Core.Bool.{Bool, true, false, cond, ◌&&◌}
 use mathlib.Core.List.{List, [], ◌∷◌, ◌++◌, map, map-append}
 use native.Mathlib.Nat.{not-suc-le-zero, le_of_suc-le-suc}
 use native.Mathlib.Omega.{arith}
-use borrow.Author.Tests.{leb-true, le-leb, lt-leb}
+use borrow.Author.Tests.{leb-true}
 use lib.Dec.{leb, ltb}
 use lib.ListN.{length, get_or, drop, length-map}
 use lib.Seq.{sets, sets-eq}
@@ -14,18 +15,14 @@ use Rattle.zone.specs.Zone.{Zone, zone_of, date_at}
 use Rattle.zone.specs.Answers.{Valid, boundary_at}
 use Rattle.zone.specs.Steady.{steady_of, day_by, midnight_by}
 use Rattle.zone.specs.declared.Boundary.{Boundary}
-use Rattle.zone.specs.declared.steady.Steady.{Steady}
-use Rattle.zone.specs.declared.steady.Steady.TheVariants.{No, By}
 use Rattle.zone.proofs.Shifts.{in_date, steady_date, steady_boundary}
 use Rattle.records.specs.Records.{Event, event_at}
 use Rattle.venue.specs.Opening.{day_of}
 use Rattle.venue.specs.Reading.{EachTime, published, ListedEvent, ListedEvents}
 use Rattle.venue.proofs.Laws.{good_event}
 use Rattle.events.specs.declared.Occurrence.{Occurrence}
-use Rattle.events.specs.declared.steady.Collected.{Collected}
-use Rattle.events.specs.declared.steady.Collected.TheVariants.{Unsteady, All}
 use Rattle.events.specs.Happenings.{occurrence, happens, on_times, on_date, on_dates, found}
-use Rattle.events.specs.Keeping.{Kept, instants, places, kept_times, kept_date, kept_dates, steady_in, kept_by, Keeps, Collects, kept_at, kept_as, listed, kept_of}
+use Rattle.events.specs.Keeping.{Kept, instants, places, kept_times, kept_date, kept_dates, steady_in, kept_by, Collects, kept_at, kept_as, listed, kept_of}
 use Rattle.events.proofs.Keeping.{dates_forward}
 
 -- an event stands at each of the places, one after the other
@@ -36,24 +33,6 @@ EachListed book (p ∷ ps) = ListedEvent book p × EachListed book ps
 each_listed : (book events : List ℕ) → ListedEvents book events → EachListed book events
 each_listed book [] l = tt
 each_listed book (p ∷ ps) l = (l 0 (omega arith), each_listed book ps (λ i h. l (suc i) (omega arith)))
-
--- ---- as the code answers
-
-pub unsteady : {s : Steady} (book events : List ℕ) (from to : ℕ) (a b : List ℕ) → s ≡ No → Collects s book events from to a b Unsteady a b
-unsteady book events from to a b e = rw e (record { answer = refl; instants_kept = refl; places_kept = refl })
-
-pub all_kept : {s : Steady} (book events : List ℕ) (from to : ℕ) {a b a' b' : List ℕ} {o n : ℕ} → s ≡ By o
-    → Keeps a b 0 (kept_dates book events o from to (day_by o from) (suc (day_by o to - day_by o from))) a' b' n
-    → Collects s book events from to a b (All n) a' b'
-all_kept book events from to {n = n} e k =
-    let c = k.count in
-    rw e (record { answer = ap All (omega arith); instants_kept = k.instants_kept; places_kept = k.places_kept })
-
-pub reversed : (z : Zone) (from to : ℕ) → to < from → steady_in z from to ≡ No
-reversed z from to h = simp (lt-leb from to h)
-
-pub forward : (z : Zone) (from to : ℕ) {s : Steady} → from ≤ to → s ≡ steady_of z from to → steady_in z from to ≡ s
-forward z from to h e = simp (le-leb from to h, e)
 
 -- ---- where the clock is steady
 
@@ -119,16 +98,16 @@ module _ (book : List ℕ) (z : Zone) (from to o : ℕ)
         ∙ ap₂ ◌++◌ (date_found d a (omega arith) ps l) (dates_found ps l (suc d) n (omega arith) (omega arith))
 
 -- an offset says that the span is not reversed and no transition is near
-steady_span : (z : Zone) (from to o : ℕ) → steady_in z from to ≡ By o → (from ≤ to) × (steady_of z from to ≡ By o)
+steady_span : (z : Zone) (from to o : ℕ) → steady_in z from to ≡ Some o → (from ≤ to) × (steady_of z from to ≡ Some o)
 steady_span z from to o e = go (leb from to) refl e
   where
-    go : (q : Bool) → leb from to ≡ q → cond q (steady_of z from to) No ≡ By o → (from ≤ to) × (steady_of z from to ≡ By o)
+    go : (q : Bool) → leb from to ≡ q → cond q (steady_of z from to) None ≡ Some o → (from ≤ to) × (steady_of z from to ≡ Some o)
     go true h i = (leb-true from to h, i)
     go false h i = let wrong : ◌≡◌ {A = ℕ} 0 1 = cc in absurd (omega arith)
 
 kept_found : (book : List ℕ) (first : ℕ) (ats os events : List ℕ) → Valid first ats os → ListedEvents book events → (from to o : ℕ)
-    → steady_in (zone_of first ats os) from to ≡ By o
-    → map (kept_as book) (kept_by book events from to (By o)) ≡ found (zone_of first ats os) (map (event_at book) events) from to
+    → steady_in (zone_of first ats os) from to ≡ Some o
+    → map (kept_as book) (kept_by book events from to (Some o)) ≡ found (zone_of first ats os) (map (event_at book) events) from to
 unfolding found
 kept_found book first ats os events v l from to o e =
     let z = zone_of first ats os in
@@ -207,19 +186,19 @@ pub record Holds (book a b a' b' : List ℕ) (n : ℕ) (os : List Occurrence) : 
   pub there : n ≤ length b → (i : ℕ) → i < n → ListedEvent book (get_or b' i 0)
 
 pub collects_all : (book : List ℕ) (first : ℕ) (ats os events : List ℕ) → Valid first ats os → ListedEvents book events
-    → (from to : ℕ) {a b a' b' : List ℕ} {r : Collected} {n : ℕ}
-    → Collects (steady_in (zone_of first ats os) from to) book events from to a b r a' b' → r ≡ All n
+    → (from to : ℕ) {a b a' b' : List ℕ} {r : (Option ℕ)} {n : ℕ}
+    → Collects (steady_in (zone_of first ats os) from to) book events from to a b r a' b' → r ≡ Some n
     → Holds book a b a' b' n (found (zone_of first ats os) (map (event_at book) events) from to)
 collects_all book first ats os events v l from to {a} {b} {a'} {b'} {r} {n} c all = go (steady_in z from to) refl c
   where
     z : Zone
     z = zone_of first ats os
 
-    go : (s : Steady) → steady_in z from to ≡ s → Collects s book events from to a b r a' b'
+    go : (s : Option ℕ) → steady_in z from to ≡ s → Collects s book events from to a b r a' b'
         → Holds book a b a' b' n (found z (map (event_at book) events) from to)
-    go No e k = let wrong : All n ≡ Unsteady = sym all ∙ k.answer in let no : ◌≡◌ {A = ℕ} 0 1 = cc in absurd (omega arith)
-    go (By o) e k =
-        let ks = kept_by book events from to (By o) in
+    go None e k = let wrong : Some n ≡ None = sym all ∙ k.answer in let no : ◌≡◌ {A = ℕ} 0 1 = cc in absurd (omega arith)
+    go (Some o) e k =
+        let ks = kept_by book events from to (Some o) in
         let many : n ≡ length ks = let w = sym all ∙ k.answer in cc in
         let found-by = kept_found book first ats os events v l from to o e in
         let places-front : n ≤ length b → b' ≡ places ks ++ drop (length ks) b = λ h. k.places_kept ∙ front (λ (j : Kept). j.place) ks b (omega arith) in

@@ -8,28 +8,13 @@ use lib.Dec.{leb}
 use lib.ListN.{length, get_or, drop, drop_of_length-le}
 use lib.Seq.{drop-cons}
 use Rattle.zone.specs.Zone.{Zone, date_at}
-use Rattle.zone.specs.Answers.{boundary_at}
-use Rattle.zone.specs.declared.Boundary.{Boundary}
-use Rattle.zone.specs.declared.Uncertainty.{Uncertainty}
 use Rattle.records.specs.Records.{Event, event_at}
 use Rattle.venue.specs.Opening.{day_of}
-use Rattle.venue.specs.Reading.{published}
 use Rattle.records.specs.Limits.{base}
 use Rattle.events.specs.declared.Occurrence.{Occurrence}
-use Rattle.events.specs.declared.Best.{Best}
-use Rattle.events.specs.declared.Best.TheVariants.{Some}
 use Rattle.events.specs.declared.Search.{Search}
 use Rattle.events.specs.Happenings.{occurrence, happens, on_times, on_date, on_dates, found, most_on_date}
-use Rattle.events.specs.Seeking.{from_here, better, met, sought}
-
--- ---- one event
-
-pub occurrence_by : (z : Zone) (d x : ℕ) (e : Event) (u : Uncertainty) (b : Boundary) (k v : ℕ) → u ≡ published e.uncertainty
-    → b ≡ boundary_at z d x u → k ≡ e.code → v ≡ e.evidence
-    → ◌≡◌ {A = Occurrence} (record { code = k; boundary = b; evidence = v }) (occurrence z d e x)
-occurrence_by z d x e u b k v p q i j =
-    ap₂ (λ (m n : ℕ). record { code = m; boundary = b; evidence = n }) i j
-    ∙ ap (λ (a : Boundary). record { code = e.code; boundary = a; evidence = e.evidence }) (q ∙ ap (boundary_at z d x) p)
+use Rattle.events.specs.Seeking.{met, sought}
 
 -- ---- one after the other
 
@@ -37,18 +22,6 @@ pub sought_append : (s : Search) (os ps : List Occurrence) → sought s (os ++ p
 unfolding sought
 sought_append s [] ps = refl
 sought_append s (o ∷ os) ps = sought_append (met s o) os ps
-
-pub met_by : (s : Search) (o : Occurrence) (b : Best)
-    → b ≡ cond (from_here s.at.0 s.index o s.count && better s.best o) (Some o s.count) s.best
-    → ◌≡◌ {A = Search} (record { at = s.at; index = s.index; count = s.count + 1; best = b }) (met s o)
-met_by s o b e = ap (λ (a : Best). record { at = s.at; index = s.index; count = s.count + 1; best = a }) e
-
--- the same by the code's test p, where q says whether it is better than the best so far
-pub met_tested : (s : Search) (o : Occurrence) (b : Best) (q p : Bool) → q ≡ better s.best o → (from_here s.at.0 s.index o s.count && q) ≡ p
-    → b ≡ cond p (Some o s.count) s.best → ◌≡◌ {A = Search} (record { at = s.at; index = s.index; count = s.count + 1; best = b }) (met s o)
-met_tested s o b q p e h t =
-    met_by s o b
-    (t ∙ ap (λ (z : Bool). cond z (Some o s.count) s.best) (sym h ∙ ap (λ (z : Bool). from_here s.at.0 s.index o s.count && z) e))
 
 -- ---- a list whose elements have events, passed one after the other: i of them are passed, each with at most so many events
 
@@ -58,9 +31,6 @@ pub record Passing (f : List ℕ → List Occurrence) (whole : List ℕ) (most :
   pub few : t.count ≤ s.count + most * i
 
 module _ {f : List ℕ → List Occurrence} {whole : List ℕ} {most : ℕ} where
-  pub pass_start : (s : Search) → Passing f whole most s s 0
-  pass_start s = record { inside = omega arith; same = refl; few = omega arith }
-
   pub pass_one : {s t r : Search} {i x : ℕ} → Passing f whole most s t i → i < length whole → x ≡ get_or whole i 0
       → sought t (f (x ∷ drop (i + 1) whole)) ≡ sought r (f (drop (i + 1) whole)) → r.count ≤ t.count + most → Passing f whole most s r (i + 1)
   pass_one {s} {t} {r} {i} {x} p h e q n =
@@ -175,9 +145,6 @@ module _ (z : Zone) (from to : ℕ) (es : List Event) (a b : ℕ) where
   date_in : (t : Search) (d n : ℕ) → sought t (on_dates z from to es d (suc n)) ≡ sought (sought t (on_date z from to d es)) (on_dates z from to es (suc d) n)
   unfolding on_dates
   date_in t d n = sought_append t (on_date z from to d es) (on_dates z from to es (suc d) n)
-
-  pub dates_start : {s : Search} → s.count ≤ most_on_date → Spanning s s a
-  dates_start n = record { low = omega arith; high = omega arith; same = refl; few = omega arith }
 
   pub date_one : {s t r : Search} {date : ℕ} → Spanning s t date → date < b → r ≡ sought t (on_date z from to (date + 1) es)
       → r.count ≤ t.count + most_on_date → Spanning s r (date + 1)

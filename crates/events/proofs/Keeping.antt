@@ -57,9 +57,6 @@ pub record Keeping (f : List ℕ → List Kept) (whole : List ℕ) (most : ℕ) 
   pub ahead : (c d : List ℕ) (r : ℕ) → Keeps a' b' m (f (drop i whole)) c d r → Keeps a b n (f whole) c d r
 
 module _ {f : List ℕ → List Kept} {whole : List ℕ} {most : ℕ} where
-  pub keep_start : (a b : List ℕ) (n : ℕ) → Keeping f whole most a b n a b n 0
-  keep_start a b n = record { inside = omega arith; few = omega arith; long = (refl, refl); ahead = λ c d r k. k }
-
   pub keep_one : {a b a' b' a'' b'' : List ℕ} {n m r i x : ℕ} {new : List Kept} → Keeping f whole most a b n a' b' m i → i < length whole
       → x ≡ get_or whole i 0
       → f (x ∷ drop (i + 1) whole) ≡ new ++ f (drop (i + 1) whole) → Keeps a' b' m new a'' b'' r → r ≤ m + most → Keeping f whole most a b n a'' b'' r (i + 1)
@@ -137,9 +134,6 @@ module _ (book events : List ℕ) (o from to a b : ℕ) where
     pub long : (length x' ≡ length x) × (length y' ≡ length y)
     pub ahead : (c d : List ℕ) (r : ℕ) → Keeps x' y' n (kept_dates book events o from to date (suc b - date)) c d r
         → Keeps x y 0 (kept_dates book events o from to a (suc b - a)) c d r
-
-  pub dates_start : (x y : List ℕ) → a ≤ b → Dating x y x y 0 a
-  dates_start x y h = record { low = omega arith; high = omega arith; few = omega arith; long = (refl, refl); ahead = λ c d r k. k }
 
   one_date : (date : ℕ) → date ≤ b
       → kept_dates book events o from to date (suc b - date) ≡ kept_date book from to date (midnight_by o date) events ++ kept_dates book events o from to (date + 1) (suc b - (date + 1))

@@ -9,8 +9,8 @@ use borrow.Author.Tests.{ltb-true, ltb-false, eqb-false, lt-ltb, le-ltb, leb-tru
 use lib.Dec.{leb, ltb, eqb}
 use lib.ListN.{length}
 use Rattle.events.specs.declared.Occurrence.{Occurrence}
-use Rattle.events.specs.declared.Best.{Best}
-use Rattle.events.specs.declared.Best.TheVariants.{None, Some}
+use Rattle.std.specs.Prelude.{Option}
+use Rattle.std.specs.Prelude.{None, Some}
 use Rattle.events.specs.declared.Search.{Search}
 use Rattle.events.specs.Happenings.{insert, by_instant}
 use Rattle.events.specs.Seeking.{from_here, better, met, sought, begin, in_turn, all_in_turn}
@@ -149,9 +149,9 @@ abbrev events : List Numbered → List Occurrence
 events [] = []
 events (m ∷ ms) = m.event ∷ events ms
 
-abbrev first : List Numbered → Best
+abbrev first : List Numbered → Option (Occurrence × ℕ)
 first [] = None
-first (m ∷ ms) = Some m.event m.number
+first (m ∷ ms) = Some (m.event, m.number)
 
 from_in : (a x : ℕ) (m : Numbered) (ms : List Numbered) → hence a x m ≡ true → from a x (m ∷ ms) ≡ m ∷ from a x ms
 from_in a x m ms h = ap (λ (b : Bool). cond b (m ∷ from a x ms) (from a x ms)) h
@@ -234,25 +234,25 @@ put_in a x n (m ∷ ms) h l = go (put_in a x n ms h l.1) (leb (at n) (at m)) ref
 -- ---- the best is the first of those behind the place
 
 -- the earlier of two, the left one on ties
-abbrev pick : Best → Best → Best
+abbrev pick : Option (Occurrence × ℕ) → Option (Occurrence × ℕ) → Option (Occurrence × ℕ)
 pick b None = b
-pick b (Some o i) = cond (better b o) (Some o i) b
+pick b (Some (o, i)) = cond (better b o) (Some (o, i)) b
 
-pick_none : (b : Best) → pick None b ≡ b
+pick_none : (b : Option (Occurrence × ℕ)) → pick None b ≡ b
 pick_none None = refl
-pick_none (Some o i) = refl
+pick_none (Some (o, i)) = refl
 
-pick_also : (b : Best) (o : Occurrence) (k : ℕ) (c : Best) → pick (pick b (Some o k)) c ≡ pick b (pick (Some o k) c)
+pick_also : (b : Option (Occurrence × ℕ)) (o : Occurrence) (k : ℕ) (c : Option (Occurrence × ℕ)) → pick (pick b (Some (o, k))) c ≡ pick b (pick (Some (o, k)) c)
 pick_also b o k None = refl
-pick_also None o k (Some p i) = go (ltb (instant p) (instant o))
+pick_also None o k (Some (p, i)) = go (ltb (instant p) (instant o))
   where
-    go : (v : Bool) → cond v (Some p i) (Some o k) ≡ pick None (cond v (Some p i) (Some o k))
+    go : (v : Bool) → cond v (Some (p, i)) (Some (o, k)) ≡ pick None (cond v (Some (p, i)) (Some (o, k)))
     go true = refl
     go false = refl
-pick_also (Some q j) o k (Some p i) = go (ltb (instant o) (instant q)) refl (ltb (instant p) (instant o)) refl
+pick_also (Some (q, j)) o k (Some (p, i)) = go (ltb (instant o) (instant q)) refl (ltb (instant p) (instant o)) refl
   where
     go : (u : Bool) → ltb (instant o) (instant q) ≡ u → (v : Bool) → ltb (instant p) (instant o) ≡ v
-        → pick (cond u (Some o k) (Some q j)) (Some p i) ≡ pick (Some q j) (cond v (Some p i) (Some o k))
+        → pick (cond u (Some (o, k)) (Some (q, j))) (Some (p, i)) ≡ pick (Some (q, j)) (cond v (Some (p, i)) (Some (o, k)))
     go true a true b =
         let h = ltb-true (instant o) (instant q) a in
         let l = ltb-true (instant p) (instant o) b in
@@ -264,20 +264,20 @@ pick_also (Some q j) o k (Some p i) = go (ltb (instant o) (instant q)) refl (ltb
         let l = ltb-false (instant p) (instant o) b in
         simp (a, le-ltb (instant p) (instant q) (omega arith))
 
-first_put : (n : Numbered) (ms : List Numbered) → first (put n ms) ≡ pick (Some n.event n.number) (first ms)
+first_put : (n : Numbered) (ms : List Numbered) → first (put n ms) ≡ pick (Some (n.event, n.number)) (first ms)
 first_put n [] = refl
 first_put n (m ∷ ms) = go (leb (at n) (at m)) refl
   where
-    go : (b : Bool) → leb (at n) (at m) ≡ b → first (cond b (n ∷ m ∷ ms) (m ∷ put n ms)) ≡ pick (Some n.event n.number) (Some m.event m.number)
+    go : (b : Bool) → leb (at n) (at m) ≡ b → first (cond b (n ∷ m ∷ ms) (m ∷ put n ms)) ≡ pick (Some (n.event, n.number)) (Some (m.event, m.number))
     go true h = simp (le-ltb (at m) (at n) (leb-true (at n) (at m) h))
     go false h = simp (lt-ltb (at m) (at n) (leb-false (at n) (at m) h))
 
-one_more : (a x k : ℕ) (b : Best) (o : Occurrence) (ms : List Numbered) → Numbers (k + 1) ms
-    → pick (cond (from_here a x o k && better b o) (Some o k) b) (first (from a x ms)) ≡ pick b (first (from a x (put (numbered o k) ms)))
+one_more : (a x k : ℕ) (b : Option (Occurrence × ℕ)) (o : Occurrence) (ms : List Numbered) → Numbers (k + 1) ms
+    → pick (cond (from_here a x o k && better b o) (Some (o, k)) b) (first (from a x ms)) ≡ pick b (first (from a x (put (numbered o k) ms)))
 one_more a x k b o ms l = go (from_here a x o k) refl
   where
     go : (y : Bool) → from_here a x o k ≡ y
-        → pick (cond (y && better b o) (Some o k) b) (first (from a x ms)) ≡ pick b (first (from a x (put (numbered o k) ms)))
+        → pick (cond (y && better b o) (Some (o, k)) b) (first (from a x ms)) ≡ pick b (first (from a x (put (numbered o k) ms)))
     go true h =
         pick_also b o k (first (from a x ms))
         ∙ ap (pick b) (sym (ap first (put_in a x (numbered o k) ms h l) ∙ first_put (numbered o k) (from a x ms)))

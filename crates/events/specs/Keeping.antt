@@ -1,20 +1,17 @@
 -- Where the clock is steady the events of a span are found once and kept: each one's instant, and where its record stands in the book.
 -- Assumes nothing.
+use Rattle.std.specs.Prelude.{None, Option, Some}
 use Rattle.std.specs.Prelude.{ℕ, zero, suc, ◌+◌, ◌-◌, ◌≤◌, ◌<◌, ◌≡◌, cond, ◌&&◌, List, [], ◌∷◌, ◌++◌, map, leb, ltb, length, get_or}
 use Rattle.std.proofs.lemmas.List.Edits.{sets}
 use Rattle.zone.specs.Zone.{Zone}
 use Rattle.zone.specs.Steady.{steady_of, day_by, midnight_by}
-use Rattle.zone.specs.declared.steady.Steady.{Steady}
-use Rattle.zone.specs.declared.steady.Steady.TheVariants.{No, By}
 use Rattle.records.specs.Records.{event_at}
 use Rattle.venue.specs.Opening.{day_of}
 use Rattle.venue.specs.Reading.{published}
 use Rattle.events.specs.declared.Occurrence.{Occurrence}
-use Rattle.events.specs.declared.Best.{Best}
-use Rattle.events.specs.declared.Best.TheVariants.{None, Some}
+use Rattle.std.specs.Prelude.{Option}
+use Rattle.std.specs.Prelude.{None, Some}
 use Rattle.events.specs.Seeking.{sought, begin}
-use Rattle.events.specs.declared.steady.Collected.{Collected}
-use Rattle.events.specs.declared.steady.Collected.TheVariants.{Unsteady, All}
 
 pub record Kept : Type 0 where
   pub at : ℕ
@@ -47,18 +44,18 @@ kept_dates book events o from to d zero = []
 kept_dates book events o from to d (suc n) = kept_date book from to d (midnight_by o d) events ++ kept_dates book events o from to (suc d) n
 
 -- the offset of a span that is not reversed, if no transition is near
-abbrev pub steady_in : Zone → ℕ → ℕ → Steady
-steady_in z from to = cond (leb from to) (steady_of z from to) No
+abbrev pub steady_in : Zone → ℕ → ℕ → Option ℕ
+steady_in z from to = cond (leb from to) (steady_of z from to) None
 
 -- by that offset, from the date of the span's start to that of its end; none without it
-abbrev pub kept_by : List ℕ → List ℕ → ℕ → ℕ → Steady → List Kept
-kept_by book events from to No = []
-kept_by book events from to (By o) = kept_dates book events o from to (day_by o from) (suc (day_by o to - day_by o from))
+abbrev pub kept_by : List ℕ → List ℕ → ℕ → ℕ → Option ℕ → List Kept
+kept_by book events from to None = []
+kept_by book events from to (Some o) = kept_dates book events o from to (day_by o from) (suc (day_by o to - day_by o from))
 
 -- how many there are; nothing is said without an offset
-abbrev pub counted : List Kept → Steady → Collected
-counted ks No = Unsteady
-counted ks (By o) = All (length ks)
+abbrev pub counted : List Kept → Option ℕ → Option ℕ
+counted ks None = None
+counted ks (Some o) = Some (length ks)
 
 -- kept behind n others in two arrays, as long as there is room, and counted
 pub record Keeps (when which : List ℕ) (n : ℕ) (ks : List Kept) (when' which' : List ℕ) (r : ℕ) : Type 0 where
@@ -67,7 +64,7 @@ pub record Keeps (when which : List ℕ) (n : ℕ) (ks : List Kept) (when' which
   pub places_kept : which' ≡ sets which n (places ks)
 
 -- the events of a span counted, and kept in two arrays from the first on
-pub record Collects (s : Steady) (book events : List ℕ) (from to : ℕ) (when which : List ℕ) (r : Collected) (when' which' : List ℕ) : Type 0 where
+pub record Collects (s : Option ℕ) (book events : List ℕ) (from to : ℕ) (when which : List ℕ) (r : Option ℕ) (when' which' : List ℕ) : Type 0 where
   pub answer : r ≡ counted (kept_by book events from to s) s
   pub instants_kept : when' ≡ sets when 0 (instants (kept_by book events from to s))
   pub places_kept : which' ≡ sets which 0 (places (kept_by book events from to s))
@@ -92,8 +89,8 @@ listed o i zero = []
 listed o i (suc n) = o i ∷ listed o (suc i) n
 
 -- the event of a number below n; the number n says that there is none
-abbrev pub best_at : (ℕ → Occurrence) → ℕ → ℕ → Best
-best_at o n r = cond (ltb r n) (Some (o r) r) None
+abbrev pub best_at : (ℕ → Occurrence) → ℕ → ℕ → Option (Occurrence × ℕ)
+best_at o n r = cond (ltb r n) (Some (o r, r)) None
 
 -- of n events at these instants, r is the first by instant and number from the number `index` at the instant `at` on
 pub record Next (when : List ℕ) (n at index r : ℕ) : Type 0 where

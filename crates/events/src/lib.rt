@@ -5,7 +5,7 @@ mod seek;
 mod steady;
 
 pub use seek::{count_events, search_events};
-pub use steady::{Collected, collect, next_kept};
+pub use steady::{collect, next_kept};
 use zone::{Boundary, Instant};
 
 #[derive(Clone, Copy)]
@@ -15,19 +15,12 @@ pub struct Occurrence {
     pub evidence: u16,
 }
 
-// The next event and its number among those found, if there is one.
-#[derive(Clone, Copy)]
-pub enum Best {
-    None,
-    Some(Occurrence, usize),
-}
-
 // A search among the events found: how many were met, and the first of them, by instant and number, from the number `index` at the
-// instant `at` on.
+// instant `at` on, with its number, if there is one.
 #[derive(Clone, Copy)]
 pub struct Search {
     pub at: Instant,
     pub index: usize,
     pub count: usize,
-    pub best: Best,
+    pub best: Option<(Occurrence, usize)>,
 }

@@ -12,7 +12,7 @@ use Rattle.span_records.specs.Shown.{Shown, head_of}
 use Rattle.joining.specs.Joining.{phases}
 use Rattle.joining.specs.Amending.{is_joinable, merged_phase}
 use Rattle.joining.specs.declared.Last.{Last}
-use Rattle.joining.specs.declared.Last.TheVariants.{Shows}
+use Rattle.std.specs.Prelude.{Option, Some}
 
 abbrev pub many : Span Shown → ℕ
 many s = length s.body.events
@@ -28,10 +28,10 @@ both_heads s q =
     (sym (length-append s.body.events q.body.events))
 
 -- what a span shows that the next may join
-abbrev pub last_at : Span Shown → Last
-last_at s = Shows (record { 0 = s.to }) s.body.held.phase s.body.held.rule.evidence
+abbrev pub last_at : Span Shown → Option Last
+last_at s = Some (record { until = record { 0 = s.to }; phase = s.body.held.phase; evidence = s.body.held.rule.evidence })
 
-abbrev pub joins_next : Last → Span Shown → Bool
+abbrev pub joins_next : Option Last → Span Shown → Bool
 joins_next last q = is_joinable last q.from q.body.held.phase q.body.held.rule.evidence
 
 -- a span that joins the one before shows what that showed
@@ -40,4 +40,4 @@ same_last s q e =
     let a = s.body.held in
     let b = q.body.held in
     let m = and_true (eqb a.phase b.phase) (eqb a.rule.evidence b.rule.evidence) (and_true (eqb s.to q.from) (same_mark (phases.mark s.body) (phases.mark q.body)) e).1 in
-    ap₂ (Shows (record { 0 = q.to })) (eqb-true a.phase b.phase m.0) (eqb-true a.rule.evidence b.rule.evidence m.1)
+    ap₂ (λ (p e : ℕ). Some (record { until = record { 0 = q.to }; phase = p; evidence = e })) (eqb-true a.phase b.phase m.0) (eqb-true a.rule.evidence b.rule.evidence m.1)

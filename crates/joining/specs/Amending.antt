@@ -1,14 +1,13 @@
 -- Joining as the code does it: by what the last span showed, and record by record. Assumes nothing.
-use Rattle.std.specs.Prelude.{ℕ, ◌+◌, Bool, false, ◌&&◌, eqb}
+use Rattle.std.specs.Prelude.{ℕ, ◌+◌, Bool, false, ◌&&◌, eqb, Option, None, Some}
 use Rattle.zone.specs.Answers.{widest_of}
 use Rattle.answer.specs.declared.Phase.{Phase}
 use Rattle.joining.specs.declared.Last.{Last}
-use Rattle.joining.specs.declared.Last.TheVariants.{Nothing, Shows}
 
 -- what the last span showed, and whether a span from `from` on joins it
-abbrev pub is_joinable : Last → ℕ → ℕ → ℕ → Bool
-is_joinable Nothing from p e = false
-is_joinable (Shows to q f) from p e = eqb to.0 from && (eqb q p && eqb f e)
+abbrev pub is_joinable : Option Last → ℕ → ℕ → ℕ → Bool
+is_joinable None from p e = false
+is_joinable (Some l) from p e = eqb l.until.0 from && (eqb l.phase p && eqb l.evidence e)
 
 -- the record of two spans that join
 abbrev pub merged_phase : Phase → Phase → Phase

@@ -1,10 +1,11 @@
-// What every entry point gives back beside the room that it was lent.
+// What every entry point gives back beside the room that it was lent, and why it may refuse.
 #![tactic(auto)]
 
 ghost use Rattle.std.specs.Prelude.{◌≡◌};
 
-// Document 01's number where the answer is longer than the room.
-pub const NO_ROOM: u32 = 16;
+mod refusal;
+
+pub use refusal::Refusal;
 
 // A number of document 01, 0 for an answer, and the answer's length.
 #[repr(C)]

@@ -22,7 +22,14 @@ pub(crate) fn put_head(out: &mut [u8], at: usize, number: u32, count: usize) -> 
     put_byte(out, c, b'\n')
 }
 
-fn put_phase(out: &mut [u8], at: usize, from: Placed, to: Placed, p: u8, evidence: u16) -> usize
+fn put_phase(
+    out: &mut [u8],
+    at: usize,
+    from: Placed<u64>,
+    to: Placed<u64>,
+    p: u8,
+    evidence: u16,
+) -> usize
     requires { TextFits at (segment_line from.0 to.0 (phase p evidence)) out.old }
     ensures { Puts out.old at (segment_line from.0 to.0 (phase p evidence)) out.new result }
 {
@@ -34,7 +41,7 @@ fn put_phase(out: &mut [u8], at: usize, from: Placed, to: Placed, p: u8, evidenc
     put_byte(out, e, b'\n')
 }
 
-fn put_unknown(out: &mut [u8], at: usize, from: Placed, to: Placed) -> usize
+fn put_unknown(out: &mut [u8], at: usize, from: Placed<u64>, to: Placed<u64>) -> usize
     requires { TextFits at (segment_line from.0 to.0 unknown) out.old }
     ensures { Puts out.old at (segment_line from.0 to.0 unknown) out.new result }
 {
@@ -44,7 +51,7 @@ fn put_unknown(out: &mut [u8], at: usize, from: Placed, to: Placed) -> usize
     put_byte(out, c, b'\n')
 }
 
-fn put_event(out: &mut [u8], at: usize, when: Placed, code: u16) -> usize
+fn put_event(out: &mut [u8], at: usize, when: Placed<u64>, code: u16) -> usize
     requires { TextFits at (event_line (record { at = when.0; code = code })) out.old }
     ensures { Puts out.old at (event_line (record { at = when.0; code = code })) out.new result }
 {
@@ -61,18 +68,15 @@ fn put_events(answer: &[u8], first: usize, n: u32, out: &mut [u8], at: usize) ->
 {
     let mut place = at;
     let mut from = first;
-    let mut left = n;
-    while 0 < left {
+    for _ in 0..n {
         let e = read_event(answer, from);
-        let when = e.at;
-        place = put_event(out, place, when, e.code);
+        place = put_event(out, place, e.at, e.code);
         from = e.behind;
-        left -= 1;
     }
     place
 }
 
-fn put_shown(out: &mut [u8], at: usize, from: Placed, to: Placed, shows: Shows) -> usize
+fn put_shown(out: &mut [u8], at: usize, from: Placed<u64>, to: Placed<u64>, shows: Shows) -> usize
     requires { TextFits at (segment_line from.0 to.0 (mark_of shows)) out.old }
     ensures { Puts out.old at (segment_line from.0 to.0 (mark_of shows)) out.new result }
 {
@@ -87,10 +91,7 @@ fn put_segment(answer: &[u8], g: RowSegment, out: &mut [u8], at: usize) -> usize
     requires { Inside g.behind (event_size * g.events) answer.now × TextFits at (segment_lines (span_of answer.now g)) out.old }
     ensures { Puts out.old at (segment_lines (span_of answer.now g)) out.new result }
 {
-    let from = g.from;
-    let to = g.to;
-    let shows = g.shows;
-    let next = put_shown(out, at, from, to, shows);
+    let next = put_shown(out, at, g.from, g.to, g.shows);
     put_events(answer, g.behind, g.events, out, next)
 }
 
@@ -101,6 +102,7 @@ pub(crate) fn count(answer: &[u8]) -> usize
 {
     let mut at: usize = 0;
     let mut seen: usize = 0;
+    // A segment says where the next one begins.
     while at != answer.len() {
         let g = read_segment(answer, at);
         seen += 1;
@@ -116,6 +118,7 @@ pub(crate) fn put_all(answer: &[u8], out: &mut [u8], at: usize) -> usize
 {
     let mut from: usize = 0;
     let mut place = at;
+    // A segment says where the next one begins.
     while from != answer.len() {
         let g = read_segment(answer, from);
         place = put_segment(answer, g, out, place);

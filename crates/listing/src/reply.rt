@@ -6,9 +6,10 @@ ghost use Rattle.listing.specs.Listing.{most, text_bytes, query_kind, query_leng
 ghost use Rattle.listing.specs.Private.{Puts, window_text};
 
 use crate::lines::{count, put_all, put_head};
+use lend::Refusal;
 use records::{HEAD, KIND};
 use timeline::window_answer;
-use wire::{get2, signed8, unplace};
+use wire::{Field, Placed};
 
 // The most bytes of the input, and of the answer.
 pub const MOST_BYTES: usize = 65_536;
@@ -26,10 +27,6 @@ const QUERY_BYTES: usize = QUERY_END + 8;
 
 const QUERY_LENGTH: u16 = (QUERY_BYTES - KIND) as u16;
 
-const TOO_LONG: u32 = 1;
-
-const NO_QUERY: u32 = 2;
-
 // Whether the input begins with a query.
 fn is_query(input: &[u8]) -> bool
     ensures { result ≡ framed query_kind query_length input.now 0 }
@@ -37,7 +34,7 @@ fn is_query(input: &[u8]) -> bool
     if input.len() < QUERY_BYTES {
         return false;
     }
-    (get2(input, 0) == QUERY_LENGTH) & (get2(input, KIND) == QUERY_KIND)
+    (u16::get(input, 0) == QUERY_LENGTH) & (u16::get(input, KIND) == QUERY_KIND)
 }
 
 // A row's first line and its segments'.
@@ -55,13 +52,10 @@ fn put_window(book: &[u8], start: i64, end: i64, out: &mut [u8]) -> usize
     ensures { Puts out.old 0 (window_text book.now start end) out.new result }
 {
     let mut room = [0u8; MOST_BYTES];
-    let reply = window_answer(book, start, end, &mut room);
-    let number = reply.number;
-    let length = reply.length;
-    if number != 0 {
-        return put_head(out, 0, number, 0);
+    match window_answer(book, start, end, &mut room) {
+        Err(why) => put_head(out, 0, u32::from(why), 0),
+        Ok(length) => put_row(&room[..length], out),
     }
-    put_row(&room[..length], out)
 }
 
 // The text of any input, at the front of the lent bytes; it answers the text's length.
@@ -69,12 +63,12 @@ pub fn list_text(input: &[u8], text: &mut [u8; TEXT_BYTES]) -> usize
     ensures { Put text.old 0 (listing input.now) (length (listing input.now)) text.new result × (result ≤ text_bytes) }
 {
     if MOST_BYTES < input.len() {
-        return put_head(text, 0, TOO_LONG, 0);
+        return put_head(text, 0, u32::from(Refusal::BookTooLong), 0);
     }
     if !is_query(input) {
-        return put_head(text, 0, NO_QUERY, 0);
+        return put_head(text, 0, u32::from(Refusal::BadFrame), 0);
     }
-    let start = unplace(signed8(input, QUERY_START));
-    let end = unplace(signed8(input, QUERY_END));
+    let start = i64::from(Placed::<u64>::get(input, QUERY_START));
+    let end = i64::from(Placed::<u64>::get(input, QUERY_END));
     put_window(&input[QUERY_BYTES..], start, end, text)
 }

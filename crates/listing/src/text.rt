@@ -3,13 +3,13 @@ ghost use Rattle.std.specs.Prelude.{◌<◌, [], ◌∷◌};
 ghost use Rattle.listing.specs.Text.{space, digit, decimal, instant};
 ghost use Rattle.listing.specs.Private.{TextFits, Puts};
 
-use wire::{HALF8, Placed, put1};
+use wire::{Field, HALF8, Placed};
 
 pub(crate) fn put_byte(out: &mut [u8], at: usize, b: u8) -> usize
     requires { TextFits at (b ∷ []) out.old }
     ensures { Puts out.old at (b ∷ []) out.new result }
 {
-    put1(out, at, b)
+    b.put(out, at)
 }
 
 pub(crate) fn put_word(out: &mut [u8], at: usize, word: &[u8]) -> usize
@@ -17,10 +17,8 @@ pub(crate) fn put_word(out: &mut [u8], at: usize, word: &[u8]) -> usize
     ensures { Puts out.old at word.now out.new result }
 {
     let mut place = at;
-    let mut i: usize = 0;
-    while i < word.len() {
-        place = put_byte(out, place, word[i]);
-        i += 1;
+    for byte in word {
+        place = put_byte(out, place, *byte);
     }
     place
 }
@@ -52,7 +50,7 @@ pub(crate) fn put_number(out: &mut [u8], at: usize, n: u64) -> usize
     put_decimal(out, next, n)
 }
 
-fn put_signed(out: &mut [u8], at: usize, p: Placed) -> usize
+fn put_signed(out: &mut [u8], at: usize, p: Placed<u64>) -> usize
     requires { TextFits at (instant p.0) out.old }
     ensures { Puts out.old at (instant p.0) out.new result }
 {
@@ -65,7 +63,7 @@ fn put_signed(out: &mut [u8], at: usize, p: Placed) -> usize
 }
 
 // An instant behind a space.
-pub(crate) fn put_instant(out: &mut [u8], at: usize, p: Placed) -> usize
+pub(crate) fn put_instant(out: &mut [u8], at: usize, p: Placed<u64>) -> usize
     requires { TextFits at (space ∷ instant p.0) out.old }
     ensures { Puts out.old at (space ∷ instant p.0) out.new result }
 {

@@ -1,6 +1,6 @@
 -- A tally counted nanosecond by nanosecond, by the point answers' bytes. Assumes nothing.
 use Rattle.std.specs.Prelude.{ℕ, ◌-◌, not, ◌&&◌, List, [], ◌∷◌, ◌++◌, map}
-use Rattle.std.proofs.Math.Option.{Option}
+use Rattle.std.specs.Prelude.{Option}
 use Rattle.zone.specs.Units.{instant_number}
 use Rattle.zone.specs.Zone.{date_at}
 use Rattle.records.specs.Records.{Coverage}

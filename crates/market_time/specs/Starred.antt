@@ -1,7 +1,7 @@
 -- Document 01's starred examples, all of them, in its order and its numbers: one statement over a table. Assumes nothing.
 use Rattle.std.specs.Prelude.{ℕ, ◌+◌, ◌*◌, ◌≡◌, List, [], ◌∷◌, map, ℤ, pos, negsuc}
 use Rattle.std.proofs.Common.{ap, ap₂}
-use Rattle.std.proofs.Math.Option.{Option, none, some}
+use Rattle.std.specs.Prelude.{Option, None, Some}
 use Rattle.zone.specs.Units.{second_ns}
 use Rattle.records.specs.Book.{records}
 use Rattle.venue.specs.Opening.{coverage_of}
@@ -24,55 +24,55 @@ abbrev seconds : ℕ → ℤ
 seconds n = pos (n * second_ns)
 
 abbrev natural : Option ℕ → Option ℤ
-natural none = none
-natural (some n) = some (pos n)
+natural None = None
+natural (Some n) = Some (pos n)
 
 abbrev counted : ℕ → Option ℤ
-counted n = some (pos n)
+counted n = Some (pos n)
 
 abbrev both : Option (ℤ × ℤ) → List (Option ℤ)
-both none = none ∷ none ∷ []
-both (some x) = some x.0 ∷ some x.1 ∷ []
+both None = None ∷ None ∷ []
+both (Some x) = Some x.0 ∷ Some x.1 ∷ []
 
 -- the day numbers of 2026-01-05, 1900-02-29, 2000-02-29 and 2100-02-29
 abbrev day_numbers : Row
-day_numbers = record { said = map Dates.number_told Dates.dates; document = some (pos 20458) ∷ none ∷ some (pos 11016) ∷ none ∷ [] }
+day_numbers = record { said = map Dates.number_told Dates.dates; document = Some (pos 20458) ∷ None ∷ Some (pos 11016) ∷ None ∷ [] }
 
 -- their weekdays, Monday 0
 abbrev weekdays : Row
-weekdays = record { said = map natural (map Dates.weekday_told Dates.dates); document = some (pos 0) ∷ none ∷ some (pos 1) ∷ none ∷ [] }
+weekdays = record { said = map natural (map Dates.weekday_told Dates.dates); document = Some (pos 0) ∷ None ∷ Some (pos 1) ∷ None ∷ [] }
 
 -- offset -18,000, to -14,400 at 1,772,953,200: 02:30; back at 1,793,512,800: 01:30
 abbrev clock_changes : Row
-clock_changes = record { said = map some (map Readings.converted Readings.walls); document = some (seconds 1772955000) ∷ some (seconds 1793511000) ∷ [] }
+clock_changes = record { said = map Some (map Readings.converted Readings.walls); document = Some (seconds 1772955000) ∷ Some (seconds 1793511000) ∷ [] }
 
 -- offset 0 to 3,600 at 1,767,654,000, points 00:00 and 23:30 every day: the point answer at 1,767,654,600
 abbrev point_answer : Row
 point_answer = record {
   said = both (Points.point_in Points.bytes_of (coverage_of (records Points.bytes_of)) (seconds 1767654600));
-  document = some (seconds 1767571200) ∷ some (seconds 1767655800) ∷ [];
+  document = Some (seconds 1767571200) ∷ Some (seconds 1767655800) ∷ [];
 }
 
 -- a window starting there: where its first segment starts, and that one's start boundary
 abbrev window_start : Row
 window_start = record {
   said = both (Windows.first (window_forms Points.bytes_of (seconds 1767654600) (seconds 1767658200)));
-  document = some (seconds 1767654600) ∷ some (seconds 1767654000) ∷ [];
+  document = Some (seconds 1767654600) ∷ Some (seconds 1767654000) ∷ [];
 }
 
 -- 11 columns and -5 make 12, 512 stay
 abbrev columns : Row
-columns = record { said = map counted (map columns_of (pos 11 ∷ negsuc 4 ∷ pos 512 ∷ [])); document = some (pos 12) ∷ some (pos 12) ∷ some (pos 512) ∷ [] }
+columns = record { said = map counted (map columns_of (pos 11 ∷ negsuc 4 ∷ pos 512 ∷ [])); document = Some (pos 12) ∷ Some (pos 12) ∷ Some (pos 512) ∷ [] }
 
 -- 11 and 512 pass, 513 get 14
 abbrev column_numbers : Row
-column_numbers = record { said = map counted (map Columns.columns_number (pos 11 ∷ pos 512 ∷ pos 513 ∷ [])); document = some (pos 0) ∷ some (pos 0) ∷ some (pos 14) ∷ [] }
+column_numbers = record { said = map counted (map Columns.columns_number (pos 11 ∷ pos 512 ∷ pos 513 ∷ [])); document = Some (pos 0) ∷ Some (pos 0) ∷ Some (pos 14) ∷ [] }
 
 -- a tally of 400 days passes, one ns more gets 13
 abbrev tally_numbers : Row
 tally_numbers = record {
   said = counted (tally_number Tallies.book (seconds 1767571200) (seconds 1802131200)) ∷ counted (tally_number Tallies.book (seconds 1767571200) (pos (1802131200 * second_ns + 1))) ∷ [];
-  document = some (pos 0) ∷ some (pos 13) ∷ [];
+  document = Some (pos 0) ∷ Some (pos 13) ∷ [];
 }
 
 abbrev pub table : List Row
@@ -82,7 +82,7 @@ pub starred : map (λ (r : Row). r.said) table ≡ map (λ (r : Row). r.document
 starred =
     ap₂ ◌∷◌ (Dates.starred).0
     (ap₂ ◌∷◌ (ap (map natural) (Dates.starred).1)
-    (ap₂ ◌∷◌ (ap (map some) Readings.starred)
+    (ap₂ ◌∷◌ (ap (map Some) Readings.starred)
     (ap₂ ◌∷◌ (ap both Points.starred)
     (ap₂ ◌∷◌ (ap both Windows.starred)
     (ap₂ ◌∷◌ (ap (map counted) Columns.starred_columns)

@@ -5,6 +5,7 @@ ghost use Rattle.std.specs.Prelude.{◌≡◌};
 ghost use Rattle.board.specs.Cells.{cells_number, cells_answer};
 ghost use Rattle.classes.specs.Classes.{class_reply, count_reply};
 ghost use Rattle.lend.specs.Lending.{Lent};
+ghost use Rattle.lend.specs.Refusals.{number_of};
 ghost use Rattle.point.specs.Asking.{point_number, point_answer};
 ghost use Rattle.timeline.specs.Asking.{window_answer};
 ghost use Rattle.tally.specs.Tallying.{tally_number, tally_answer};
@@ -16,7 +17,7 @@ ghost use Rattle.market_time.specs.Demand.{Demand};
 use board::cells_answer;
 use book::check;
 use classes::{ClassReply, CountReply, class_answer, count_answer};
-use lend::Reply;
+use lend::{Refusal, Reply};
 use point::point_answer;
 use tally::tally_answer;
 use timeline::window_answer;
@@ -25,21 +26,21 @@ use timeline::window_answer;
 pub fn market_time_point(book: &[u8], at: i64, out: &mut [u8]) -> Reply
     ensures { Lent (point_number book.now at) (point_answer book.now at) out.old out.new result }
 {
-    point_answer(book, at, out)
+    Reply::from(point_answer(book, at, out))
 }
 
 // The phases of a window: kinds 16, 17 and 18.
 pub fn market_time_window(book: &[u8], start: i64, end: i64, out: &mut [u8]) -> Reply
     ensures { Lent (window_number book.now start end) (window_answer book.now start end) out.old out.new result }
 {
-    window_answer(book, start, end, out)
+    Reply::from(window_answer(book, start, end, out))
 }
 
 // The totals of a window: kind 22 for each day, then one 23.
 pub fn market_time_tally(book: &[u8], start: i64, end: i64, out: &mut [u8]) -> Reply
     ensures { Lent (tally_number book.now start end) (tally_answer book.now start end) out.old out.new result }
 {
-    tally_answer(book, start, end, out)
+    Reply::from(tally_answer(book, start, end, out))
 }
 
 // A row's cells between brackets. `at`, the board's now, counts only where it is marked.
@@ -55,26 +56,26 @@ pub fn market_time_cells(
     ensures { Lent (cells_number row.now start end columns marked at) (cells_answer row.now start end columns marked at)
         out.old out.new result }
 {
-    cells_answer(row, start, end, columns, marked, at, out)
+    Reply::from(cells_answer(row, start, end, columns, marked, at, out))
 }
 
 // What a row shows at an instant: its class.
 pub fn market_time_class(row: &[u8], at: i64) -> ClassReply
     ensures { result ≡ class_reply row.now at }
 {
-    class_answer(row, at)
+    ClassReply::from(class_answer(row, at))
 }
 
 // How many rows, each behind its mark, are of each class at an instant.
 pub fn market_time_count(rows: &[u8], at: i64) -> CountReply
     ensures { result ≡ count_reply rows.now at }
 {
-    count_answer(rows, at)
+    CountReply::from(count_answer(rows, at))
 }
 
 // Demand 3 of any book that can be lent, whatever its bytes are. It only judges the book: its contract is the theorem.
-pub fn demand_3(book: &[u8]) -> u32
-    ensures { (result ≡ refusal base book.now) × Demand book.now }
+pub fn demand_3(book: &[u8]) -> Result<(), Refusal>
+    ensures { (number_of result ≡ refusal base book.now) × Demand book.now }
 {
     check(book)
 }

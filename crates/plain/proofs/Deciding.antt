@@ -1,8 +1,8 @@
 -- The tests of plain dates and of plain windows decide them. Assumes nothing.
 use mathlib.Core.Path.{◌≡◌, refl, sym, subst}
 use mathlib.Core.Bool.{Bool, true, false, ◌&&◌, ◌||◌}
-use mathlib.Core.List.{List, [], ◌∷◌, map}
-use mathlib.Core.Option.{Option, none, some}
+use mathlib.Core.List.{List, [], ◌∷◌}
+use Rattle.std.specs.Prelude.{Option, None, Some}
 use Prim.Native.Nat.{ℕ, zero, suc, ◌+◌, ◌-◌, ◌≤◌, ◌<◌}
 use native.Mathlib.Decide.{dec_lt, dec_le}
 use native.Mathlib.Omega.{arith}
@@ -10,13 +10,17 @@ use borrow.Author.Tests.{leb-true, le-leb, lt-leb, ltb-true, lt-ltb}
 use lib.Dec.{leb, ltb}
 use lib.IntN.{ℤ}
 use Rattle.wire.proofs.Signs.{and_true}
-use Rattle.zone.specs.Zone.{Zone, zone_of, date_at}
+use Rattle.zone.specs.Clocks.{zone_in}
+use Rattle.zone.specs.Zone.{Zone, date_at}
 use Rattle.zone.specs.Throughout.{reads_throughout}
 use Rattle.zone.proofs.Throughout.{reads_all, all_read}
-use Rattle.records.specs.Records.{Point, Rule, Coverage, rule_at}
+use Rattle.records.specs.Records.{Point, Rule, Coverage}
 use Rattle.records.specs.Book.{records}
-use Rattle.venue.specs.Opening.{coverage_of, ats_of, offsets_of, rule_places}
+use Rattle.venue.specs.Opening.{coverage_of}
+use Rattle.venue.specs.Values.{rules_in}
+use Rattle.venue.specs.Filled.{Holds}
 use Rattle.venue.specs.declared.opened.Header.{Header}
+use Rattle.venue.specs.declared.venue.Venue.{Venue as OpenVenue}
 use Rattle.venue.proofs.Known.{Known}
 use Rattle.spans.specs.Timeline.{Venue, Part, midnight}
 use Rattle.day.specs.Governing.{governing_rule}
@@ -61,8 +65,8 @@ rises_decides conv lo hi (p ∷ ps) =
     both (leb lo (conv p.time)) (rises conv (conv p.time) hi ps) (order_decides lo (conv p.time)) (rises_decides conv (conv p.time) hi ps)
 
 points_decide : (conv : ℕ → ℕ) (lo hi : ℕ) (o : Option Rule) → Decides (in_order conv lo hi o) (InOrder conv lo hi o)
-points_decide conv lo hi none = record { yes = λ e. tt; no = λ h. refl }
-points_decide conv lo hi (some r) = rises_decides conv lo hi r.points
+points_decide conv lo hi None = record { yes = λ e. tt; no = λ h. refl }
+points_decide conv lo hi (Some r) = rises_decides conv lo hi r.points
 
 module _ (z : Zone) (g : ℕ → Option Rule) where
   abbrev v : Venue Held
@@ -210,13 +214,13 @@ pub book_decides : (s : List ℕ) (start end : ℤ) → instant_of start < insta
 book_decides s start end h = go (coverage_of (records s))
   where
     go : (o : Option Coverage) → Decides (plain_for (records s) (window start end) o) (PlainFor (records s) (window start end) o)
-    go none = record { yes = λ e. no_test e; no = λ p. absurd p }
-    go (some c) = let v = values_of (records s) c in window_decides v.zone v.governing (window start end) h
+    go None = record { yes = λ e. no_test e; no = λ p. absurd p }
+    go (Some c) = let v = values_of (records s) c in window_decides v.zone v.governing (window start end) h
 
 -- as the code answers it, over an opened book
-pub opened_decides : (s : List ℕ) (h : Header) (k : Known s h) (w : Part) (r : Bool)
-    → Decides r (PlainWindow (venue_by (zone_of h.offset0 (ats_of (records s)) (offsets_of (records s))) (governing_rule (map (rule_at s) (rule_places s)))) w)
+pub opened_decides : {s : List ℕ} {h : Header} {o : OpenVenue} → Holds s h o → Known s h → (w : Part) (r : Bool)
+    → Decides r (PlainWindow (venue_by (zone_in o.clock) (governing_rule (rules_in o.rules))) w)
     → Decides r (PlainFor (records s) w (coverage_of (records s)))
-opened_decides s h k w r d =
+opened_decides {s} i k w r d =
     subst (λ (o : Option Coverage). Decides r (PlainFor (records s) w o)) (sym k.is)
-    (subst (λ (v : Values). Decides r (PlainWindow (venue_of v) w)) (opened_values s h k) d)
+    (subst (λ (v : Values). Decides r (PlainWindow (venue_of v) w)) (opened_values i k) d)

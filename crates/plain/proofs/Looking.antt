@@ -2,7 +2,7 @@
 use mathlib.Core.Path.{◌≡◌, refl, sym, ap, ap₂, subst, ◌∙◌}
 use mathlib.Core.Bool.{Bool, true, false, ◌&&◌, ◌||◌}
 use mathlib.Core.List.{List}
-use mathlib.Core.Option.{Option}
+use Rattle.std.specs.Prelude.{Option}
 use Prim.Native.Nat.{ℕ, zero, suc, ◌+◌, ◌-◌, ◌≤◌, ◌<◌}
 use native.Mathlib.Decide.{dec_lt}
 use native.Mathlib.Numerals.{add-one}
@@ -14,6 +14,9 @@ use lib.Seq.{drop-cons, drop-length}
 use Rattle.wire.proofs.Signs.{and_no}
 use Rattle.zone.specs.Zone.{Zone, date_at}
 use Rattle.zone.specs.Throughout.{reads_throughout}
+use Rattle.zone.specs.Answers.{boundary_at}
+use Rattle.zone.specs.declared.Boundary.{Boundary}
+use Rattle.zone.specs.declared.Uncertainty.TheVariants.{Exact}
 use Rattle.records.specs.Records.{Point, Rule}
 use Rattle.venue.specs.Reading.{midnight}
 use Rattle.spans.specs.Timeline.{Venue, Part}
@@ -22,6 +25,13 @@ use Rattle.plain.specs.Plain.{PlainDate, PlainWindow}
 use Rattle.plain.specs.Deciding.{Decides, rises, in_order, taken_at, plain_between, plain_date, reaches, most_dates, plain_from, plain_window}
 use Rattle.plain.specs.Private.{PlainUntil}
 use Rattle.plain.proofs.Deciding.{no_test, decides_once, decides_not, date_decides, Reached, reach_decides, window_decides}
+
+-- the instants of a converted time, and of a midnight
+pub taken_by : (z : Zone) (d : ℕ) {x y : ℕ} {b : Boundary} → b ≡ boundary_at z d x Exact → x ≡ y → b.at.0 ≡ taken_at z d y
+taken_by z d e p = ap (λ (b : Boundary). b.at.0) e ∙ ap (taken_at z d) p
+
+pub midnight_by : (z : Zone) (d : ℕ) {b : Boundary} → b ≡ boundary_at z d 0 Exact → b.at.0 ≡ taken_at z d 0
+midnight_by z d e = ap (λ (b : Boundary). b.at.0) e
 
 -- ---- points
 

@@ -1,7 +1,7 @@
 -- Where no clock change stands near, a date is plain, whatever its rule. Assumes nothing.
 use mathlib.Core.Path.{◌≡◌, refl, ap, ap₂, ◌∙◌}
 use mathlib.Core.List.{List, [], ◌∷◌, map}
-use mathlib.Core.Option.{Option, none, some}
+use Rattle.std.specs.Prelude.{Option, None, Some}
 use Prim.Native.Nat.{ℕ, suc, ◌+◌, ◌-◌, ◌*◌, ◌≤◌, ◌<◌}
 use native.Mathlib.Omega.{arith}
 use Rattle.calendar.specs.Answers.{first_day, last_day}
@@ -9,6 +9,10 @@ use Rattle.zone.specs.Units.{day_ns, most_offset, most_offset_ns, offset_ns, nea
 use Rattle.zone.specs.Zone.{Zone, zone_of, offset_at, date_at, reading_of, instant_by, resolve}
 use Rattle.zone.specs.Answers.{Valid, taken}
 use Rattle.zone.specs.Steady.{steady_until}
+use Rattle.zone.specs.Clocks.{zone_in}
+use Rattle.zone.specs.declared.clock.Clock.{Clock}
+use Rattle.venue.specs.Values.{rules_in}
+use Rattle.venue.specs.declared.rule.Rules.{Rules}
 use Rattle.zone.proofs.Offsets.{offset_most}
 use Rattle.zone.proofs.Readings.{resolve_steady}
 use Rattle.zone.proofs.Until.{until_in, until_steady}
@@ -19,8 +23,9 @@ use Rattle.day.specs.Governing.{governing_rule}
 use Rattle.day.specs.Days.{Held, venue_by}
 use Rattle.day.proofs.Listed.{governing_source, source_good}
 use Rattle.plain.specs.Plain.{Rises, InOrder, PlainDate}
+use Rattle.plain.specs.Private.{PlainUntil}
 
-module _ (first : ℕ) (ats os : List ℕ) (ok : Valid first ats os) (g : ℕ → Option Rule) (good : (d : ℕ) (r : Rule) → g d ≡ some r → GoodRule r) where
+module _ (first : ℕ) (ats os : List ℕ) (ok : Valid first ats os) (g : ℕ → Option Rule) (good : (d : ℕ) (r : Rule) → g d ≡ Some r → GoodRule r) where
   abbrev z : Zone
   z = zone_of first ats os
 
@@ -57,8 +62,8 @@ module _ (first : ℕ) (ats os : List ℕ) (ok : Valid first ats os) (g : ℕ �
     points (p ∷ ps) f e = (omega (arith, ap (v.conv d) f.0), rises p.time ps e.0 f.1 e.2)
 
     in_order_law : (r : Option Rule) → g d ≡ r → InOrder (v.conv d) (midnight v d) (midnight v (suc d)) r
-    in_order_law none e = tt
-    in_order_law (some r) e = points r.points (good d r e).from_midnight (good d r e).each
+    in_order_law None e = tt
+    in_order_law (Some r) e = points r.points (good d r e).from_midnight (good d r e).each
 
     reading : (t : ℕ) → midnight v d ≤ t → t < midnight v (suc d) → date_at z t ≡ d
     reading t a b =
@@ -78,3 +83,13 @@ until_plain s first ats os rules ok listed d e from before =
     steady_date first ats os ok (governing_rule (map (rule_at s) rules)) (λ c r g. source_good s r (governing_source s rules listed c r g)) e
     (offset_at (zone_of first ats os) ((d - 1) * day_ns)) in_use.0 in_use.1 (offset_most first ats os ((d - 1) * day_ns) ok)
     (until_steady ats d e from before first os ok)
+
+-- the dates up to one that is not behind that first
+pub until_run : (clock : Clock) (rules : Rules) (d last r : ℕ) → d < r → r ≤ last → r ≤ steady_until clock.ats.now d
+    → PlainUntil (venue_by (zone_in clock) (governing_rule (rules_in rules))) d last r
+until_run clock rules d last r h i j =
+    record {
+      most = i;
+      run = λ e a b. until_plain rules.book.now clock.offset0 clock.ats.now clock.offsets.now rules.places.now clock.valid rules.listed d e a (omega arith);
+      stops = λ l. absurd (omega arith);
+    }

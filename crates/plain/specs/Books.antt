@@ -1,6 +1,6 @@
 -- Plain windows of a book. Instants are document 01's integers. Assumes nothing.
 use Rattle.std.specs.Prelude.{ℕ, List, ℤ}
-use Rattle.std.proofs.Math.Option.{Option, none, some}
+use Rattle.std.specs.Prelude.{Option, None, Some}
 use Rattle.records.specs.Records.{Coverage, Record}
 use Rattle.records.specs.Book.{records}
 use Rattle.venue.specs.Opening.{coverage_of}
@@ -14,8 +14,8 @@ window start end = record { start = instant_of start; end = instant_of end }
 
 -- a book of zero bytes names no venue, and no window is plain for it
 abbrev pub PlainFor : List Record → Part → Option Coverage → Type 0
-PlainFor rs w none = ⊥
-PlainFor rs w (some c) = PlainWindow (venue_of (values_of rs c)) w
+PlainFor rs w None = ⊥
+PlainFor rs w (Some c) = PlainWindow (venue_of (values_of rs c)) w
 
 -- the window is plain for the venue that the book names; coverage plays no part in it
 abbrev pub Plain : List ℕ → ℤ → ℤ → Type 0

@@ -1,6 +1,6 @@
 -- Whether dates and windows are plain, as tests over a zone and the rule that governs a date. Assumes nothing.
 use Rattle.std.specs.Prelude.{◌≡◌, Bool, true, false, ◌&&◌, ◌||◌, List, [], ◌∷◌, ℕ, zero, suc, ◌-◌, leb, ltb, ℤ}
-use Rattle.std.proofs.Math.Option.{Option, none, some}
+use Rattle.std.specs.Prelude.{Option, None, Some}
 use Rattle.zone.specs.Units.{nearest_reading, reading_at}
 use Rattle.zone.specs.Zone.{Zone, date_at, resolve}
 use Rattle.zone.specs.Answers.{taken}
@@ -30,8 +30,8 @@ rises conv lo hi [] = leb lo hi
 rises conv lo hi (p ∷ ps) = leb lo (conv p.time) && rises conv (conv p.time) hi ps
 
 abbrev pub in_order : (ℕ → ℕ) → ℕ → ℕ → Option Rule → Bool
-in_order conv lo hi none = true
-in_order conv lo hi (some r) = rises conv lo hi r.points
+in_order conv lo hi None = true
+in_order conv lo hi (Some r) = rises conv lo hi r.points
 
 -- between the instants a and b
 abbrev pub plain_between : Zone → (ℕ → Option Rule) → ℕ → ℕ → ℕ → Bool
@@ -62,8 +62,8 @@ plain_window z g w = plain_from z g w (date_at z w.start)
 -- ---- a window of a book
 
 abbrev pub plain_for : List Record → Part → Option Coverage → Bool
-plain_for rs w none = false
-plain_for rs w (some c) = plain_window (values_of rs c).zone (values_of rs c).governing w
+plain_for rs w None = false
+plain_for rs w (Some c) = plain_window (values_of rs c).zone (values_of rs c).governing w
 
 -- the window is plain for the venue that the book names
 abbrev pub plain : List ℕ → ℤ → ℤ → Bool

@@ -1,6 +1,6 @@
 -- Plain dates and plain windows of a venue: document 01, "A date is plain when ..". Assumes nothing.
 use Rattle.std.specs.Prelude.{◌≡◌, List, [], ◌∷◌, ℕ, suc, ◌+◌, ◌-◌, ◌≤◌, ◌<◌}
-use Rattle.std.proofs.Math.Option.{Option, none, some}
+use Rattle.std.specs.Prelude.{Option, None, Some}
 use Rattle.records.specs.Records.{Point, Rule}
 use Rattle.spans.specs.Timeline.{Venue, Part, midnight}
 
@@ -13,8 +13,8 @@ Rises conv lo hi (p ∷ ps) = (lo ≤ conv p.time) × Rises conv (conv p.time) h
 
 -- the points of a rule, if there is one
 abbrev pub InOrder : (ℕ → ℕ) → ℕ → ℕ → Option Rule → Type 0
-InOrder conv lo hi none = Unit {0}
-InOrder conv lo hi (some r) = Rises conv lo hi r.points
+InOrder conv lo hi None = Unit {0}
+InOrder conv lo hi (Some r) = Rises conv lo hi r.points
 
 -- A date is plain when its midnight is not later than the next; its governing rule's points, if any, convert in non-falling order between
 -- the two; and every instant from the first to before the second reads that date.

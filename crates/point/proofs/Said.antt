@@ -1,7 +1,7 @@
 -- The bytes of a point answer say what the point is. Assumes nothing.
 use mathlib.Core.Path.{◌≡◌, refl, sym, ap, ap₂, subst, ◌∙◌}
 use mathlib.Core.List.{List, [], ◌∷◌, ◌++◌, append_assoc, append-nil}
-use mathlib.Core.Option.{Option, none, some}
+use Rattle.std.specs.Prelude.{Option, None, Some}
 use Prim.Native.Nat.{ℕ, ◌+◌, ◌^◌, ◌≤◌, ◌<◌}
 use native.Mathlib.Omega.{arith}
 use lib.IntN.{ℤ}
@@ -69,13 +69,13 @@ module _ (p : Forms.Phase) (after : List ℕ) where
         let between = put phase_place p.phase ∷ put Forms.code_place p.code ∷ put Forms.label_place p.label ∷ [] in
         one_field (before ++ between) (put evidence_place p.evidence) _ after b
 
-    pub known_said : point_said known ≡ some (phase p.phase p.evidence)
+    pub known_said : point_said known ≡ Some (phase p.phase p.evidence)
     unfolding point_said
     known_said =
         let k = known_kind in
-        rw k (ap₂ (λ (x y : ℕ). some (phase x y)) known_phase known_evidence)
+        rw k (ap₂ (λ (x y : ℕ). Some (phase x y)) known_phase known_evidence)
 
-missing_said : (m : Missing) (after : List ℕ) → point_said (encode (Forms.point m) ++ after) ≡ none
+missing_said : (m : Missing) (after : List ℕ) → point_said (encode (Forms.point m) ++ after) ≡ None
 unfolding point_said encode
 missing_said m after =
     let k : number kind (encode (Forms.point m) ++ after) 0 ≡ missing_kind =
@@ -85,7 +85,7 @@ missing_said m after =
 -- ---- a known point of an accepted book fits its fields
 
 pub held_narrow : (s : List ℕ) → Bytes s → refusal base s ≡ 0 → (c : Coverage) (t : ℕ) (h : Held)
-    → point_of (values_of (records s) c) t ≡ some h
+    → point_of (values_of (records s) c) t ≡ Some h
     → (h.phase < 2 ^ 8) × (h.rule.evidence < 2 ^ 16)
 held_narrow s b e c t h q =
     let v = values_of (records s) c in
@@ -99,7 +99,7 @@ held_narrow s b e c t h q =
 
 -- ---- for every accepted book and every instant
 
-pub point_said_law : (s : List ℕ) → Bytes s → refusal base s ≡ 0 → (c : Coverage) → coverage_of (records s) ≡ some c → (n : ℤ)
+pub point_said_law : (s : List ℕ) → Bytes s → refusal base s ≡ 0 → (c : Coverage) → coverage_of (records s) ≡ Some c → (n : ℤ)
     → point_said (point_answer s n) ≡ point_mark (point_of (values_of (records s) c) (instant_of n))
 unfolding point_answer encode_all
 point_said_law s b e c q n =
@@ -107,5 +107,5 @@ point_said_law s b e c q n =
   where
     go : (o : Option Held) → point_of (values_of (records s) c) (instant_of n) ≡ o
         → point_said (encode_all (by_point (values_of (records s) c) c n o)) ≡ point_mark o
-    go none i = missing_said _ []
-    go (some h) i = let f = held_narrow s b e c (instant_of n) h i in known_said _ _ f.0 f.1
+    go None i = missing_said _ []
+    go (Some h) i = let f = held_narrow s b e c (instant_of n) h i in known_said _ _ f.0 f.1

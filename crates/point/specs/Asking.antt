@@ -1,6 +1,6 @@
 -- The point answer in bytes: which number a question gets, and what is answered. Assumes nothing.
 use Rattle.std.specs.Prelude.{ℕ, List, [], ◌∷◌, ℤ}
-use Rattle.std.proofs.Math.Option.{Option, none, some}
+use Rattle.std.specs.Prelude.{Option, None, Some}
 use Rattle.records.specs.Limits.{base}
 use Rattle.records.specs.Records.{Coverage, Record}
 use Rattle.records.specs.Book.{refusal, records, or_then}
@@ -24,13 +24,13 @@ abbrev pub missing_forms : ℤ → Option Cover → List Form
 missing_forms n c = point (record { at = n; coverage = c }) ∷ []
 
 abbrev pub by_point : Values → Coverage → ℤ → Option Held → List Form
-by_point v c n none = missing_forms n (some (record { start = c.start; end = c.end }))
-by_point v c n (some h) = known_forms v h
+by_point v c n None = missing_forms n (Some (record { start = c.start; end = c.end }))
+by_point v c n (Some h) = known_forms v h
 
 -- of a venue without data, and of one with coverage
 abbrev pub by_coverage : List Record → ℤ → Option Coverage → List Form
-by_coverage rs n none = missing_forms n none
-by_coverage rs n (some c) = by_point (values_of rs c) c n (point_of (values_of rs c) (instant_of n))
+by_coverage rs n None = missing_forms n None
+by_coverage rs n (Some c) = by_point (values_of rs c) c n (point_of (values_of rs c) (instant_of n))
 
 abbrev pub point_forms : List ℕ → ℤ → List Form
 point_forms s n = by_coverage (records s) n (coverage_of (records s))

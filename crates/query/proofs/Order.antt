@@ -1,6 +1,7 @@
 -- Integers and their instants are in the same order; a window that passes, and one inside it. Assumes nothing.
 use mathlib.Core.Path.{◌≡◌, refl, sym, ap, ap₂, ◌∙◌}
 use mathlib.Core.Bool.{Bool, true, cond, ◌&&◌}
+use Rattle.std.specs.Prelude.{Ok, Err}
 use Prim.Native.Nat.{ℕ, ◌+◌, ◌≤◌, ◌<◌}
 use native.Mathlib.Omega.{arith}
 use borrow.Author.Tests.{lt-ltb, le-leb, leb-true, ltb-true, eq-eqb}
@@ -11,11 +12,10 @@ use mir.Syntax.{w64}
 use Rattle.wire.specs.Signs.{meant}
 use Rattle.wire.proofs.Signs.{and_true, order_lt, order_le}
 use Rattle.zone.specs.Units.{instant_number, instant_of}
-use Rattle.zone.specs.declared.Instant.{Instant}
+use Rattle.zone.specs.declared.Interval.{Interval}
 use Rattle.zone.proofs.Domain.{instant_zero, instant_placed}
 use Rattle.records.specs.Book.{Range, inside, instants}
 use Rattle.query.specs.Judging.{window_refusal, window_of}
-use Rattle.query.specs.declared.Window.TheVariants.{Refused, Between}
 use Rattle.query.proofs.Instants.{number_back}
 use Rattle.query.proofs.Windows.{Windowed, passes, window_between}
 
@@ -73,9 +73,8 @@ module _ (m n : ℤ) (a : GivenBack m) (b : GivenBack n) where
 pub window_passed : (m n : ℤ) → window_refusal m n ≡ 0 → Windowed m n (record { 0 = instant_of m }) (record { 0 = instant_of n })
 unfolding window_of
 window_passed m n e =
-    let a : Instant = record { 0 = instant_of m } in
-    let b : Instant = record { 0 = instant_of n } in
-    window_between m n {a = a} {b = b} (sym (ap (λ (q : Bool). cond q (Between a b) (Refused (window_refusal m n))) (eq-eqb (window_refusal m n) 0 e)))
+    let w : Interval = record { start = record { 0 = instant_of m }; end = record { 0 = instant_of n } } in
+    window_between m n {w = w} (sym (ap (λ (q : Bool). cond q (Ok w) (Err (window_refusal m n))) (eq-eqb (window_refusal m n) 0 e)))
 
 -- from an integer of a window that passes to a later one of it is such a window
 pub window_inside : (m n m' n' : ℤ) → window_refusal m n ≡ 0 → le_z m m' ≡ true → lt_z m' n' ≡ true → le_z n' n ≡ true → window_refusal m' n' ≡ 0
@@ -83,6 +82,5 @@ window_inside m n m' n' e a b c =
     let w = window_passed m n e in
     let start = inside_between instants m n m' w.start_in w.end_in a (le_le m' n' n (lt_le m' n' b) c) in
     let end = inside_between instants m n n' w.start_in w.end_in (le_le m m' n' a (lt_le m' n' b)) c in
-    let x : Instant = record { 0 = instant_of m' } in
-    let y : Instant = record { 0 = instant_of n' } in
-    (window_between m' n' {a = x} {b = y} (passes m' n' start end x y refl refl (instant_lt m' n' (number_back m' start) (number_back n' end) b))).passed
+    let x : Interval = record { start = record { 0 = instant_of m' }; end = record { 0 = instant_of n' } } in
+    (window_between m' n' {w = x} (passes m' n' start end x.start x.end refl refl (instant_lt m' n' (number_back m' start) (number_back n' end) b))).passed

@@ -2,7 +2,7 @@
 use mathlib.Core.Path.{◌≡◌, refl}
 use mathlib.Core.Bool.{Bool, true, false, cond}
 use mathlib.Core.List.{List, [], ◌∷◌}
-use mathlib.Core.Option.{Option, none, some}
+use Rattle.std.specs.Prelude.{Option, None, Some}
 use Prim.Native.Nat.{ℕ, suc, ◌+◌, ◌≤◌}
 use native.Mathlib.Nat.{zero-add}
 use native.Mathlib.Decide.{ℕ_discrete}
@@ -63,8 +63,8 @@ few_one l before r rs h =
 
 -- what Spaced says of the instants behind a last one, if there is one
 abbrev After : Option ℤ → List ℤ → Type 0
-After none zs = Spaced zs
-After (some a) zs = Spaced (a ∷ zs)
+After None zs = Spaced zs
+After (Some a) zs = Spaced (a ∷ zs)
 
 not_before : (a b : ℤ) → lt_z a b ≡ false → le_z b a ≡ true
 not_before (pos a) (pos b) e = le-leb b a (ltb-false a b e)
@@ -79,16 +79,16 @@ not_behind (negsuc a) (pos b) e = cc
 not_behind (negsuc a) (negsuc b) e = le-ltb b a (leb-true a b e)
 
 apart_one : (o : Option ℤ) (z : ℤ) (zs : List ℤ) → closer o z ≡ false → Spaced (z ∷ zs) → After o (z ∷ zs)
-apart_one none z zs e p = p
-apart_one (some a) z zs e p = (not_before z (a +ℤ pos spacing) e, p)
+apart_one None z zs e p = p
+apart_one (Some a) z zs e p = (not_before z (a +ℤ pos spacing) e, p)
 
 one_apart : (o : Option ℤ) (z : ℤ) (zs : List ℤ) → After o (z ∷ zs) → (closer o z ≡ false) × Spaced (z ∷ zs)
-one_apart none z zs p = (refl, p)
-one_apart (some a) z zs p = (not_behind z (a +ℤ pos spacing) p.0, p.1)
+one_apart None z zs p = (refl, p)
+one_apart (Some a) z zs p = (not_behind z (a +ℤ pos spacing) p.0, p.1)
 
 alone : (o : Option ℤ) → After o []
-alone none = tt
-alone (some a) = tt
+alone None = tt
+alone (Some a) = tt
 
 -- one record more, forth and back
 apart_forth : (before : List Record) (r : Record) (rs : List Record) → too_close before r ≡ false → After (last_instant (r ∷ before)) (instants_of rs)

@@ -1,6 +1,6 @@
 -- Which byte strings are books, and the number that every other gets: document 01, "Book" and "Numbers given back". Assumes nothing.
 use Rattle.std.specs.Prelude.{ℕ, zero, suc, ◌+◌, ◌*◌, ◌^◌, Bool, true, false, not, cond, ◌&&◌, ◌||◌, List, [], ◌∷◌, ltb, leb, eqb, ℤ, pos, ◌+ℤ◌, length}
-use Rattle.std.proofs.Math.Option.{Option, none, some}
+use Rattle.std.specs.Prelude.{Option, None, Some}
 use Rattle.std.proofs.Math.IntN.{sub_ℕ}
 use Rattle.std.specs.Int.Signed.{lt_z, le_z}
 use Rattle.calendar.specs.Answers.{first_day, last_day, meaning}
@@ -188,15 +188,15 @@ covers_nothing (event e) = false
 
 -- the last transition's instant, of records with the latest first
 abbrev pub last_instant : List Record → Option ℤ
-last_instant [] = none
+last_instant [] = None
 last_instant (coverage c ∷ before) = last_instant before
-last_instant (transition t ∷ before) = some t.at
+last_instant (transition t ∷ before) = Some t.at
 last_instant (rule r ∷ before) = last_instant before
 last_instant (event e ∷ before) = last_instant before
 
 abbrev pub closer : Option ℤ → ℤ → Bool
-closer none at = false
-closer (some last) at = lt_z at (last +ℤ pos spacing)
+closer None at = false
+closer (Some last) at = lt_z at (last +ℤ pos spacing)
 
 abbrev pub too_close : List Record → Record → Bool
 too_close before (coverage c) = false

@@ -1,4 +1,5 @@
 // The kinds of records, and where their fields stand, counted from a record's first byte: each behind the one before it.
+// Kinds are numbers: a book may hold any u16 for one, and the functions below take every one.
 ghost use Rattle.std.specs.Prelude.{◌≡◌, ◌≤◌};
 ghost use Rattle.records.specs.Layout.{rule_kind, is_rule, is_dated, tag, count, time, step};
 

@@ -7,8 +7,8 @@ ghost use Rattle.std.specs.Prelude.{◌^◌, ◌≤◌, ◌<◌};
 
 use answer::{MISSING_KIND, PHASE_KIND};
 use board::cells_answer;
-use cases::{BLOCK_BYTES, BLOCKS, ZERO, met, number, read_full, report, report_refusals};
-use classes::{class_answer, count_answer};
+use cases::{count, each_block, met, number, report, report_refusals};
+use classes::{ClassReply, CountReply, class_answer, count_answer};
 use lend::{Reply, refused};
 use point::point_answer;
 use records::KIND;
@@ -16,7 +16,7 @@ use std::fs::File;
 use std::io::Result;
 use tally::tally_answer;
 use timeline::window_answer;
-use wire::{Placed, get2, get4, get8, unplace};
+use wire::Field;
 
 // A record has a kind, the entry that was asked, and ten numbers: the reply's number and the answer's length, the lengths of the book and of
 // the room, 1 for a book of zeros, and the query's. The book's bytes follow, none of zeros, and then the answer's. A row's bytes stand where
@@ -73,20 +73,6 @@ struct Query {
     now: i64,
 }
 
-// A number of the list, none above 2^32.
-fn count(p: Placed) -> usize
-    ensures { result < 2 ^ 32 }
-{
-    let n = p.0;
-    if n < ZERO {
-        return 0;
-    }
-    if 0xffff_ffff < n - ZERO {
-        return 0;
-    }
-    (n - ZERO) as usize
-}
-
 fn place(expected: usize) -> u8 {
     if (LAST_NUMBER as usize) < expected {
         return STRANGE;
@@ -94,42 +80,14 @@ fn place(expected: usize) -> u8 {
     expected as u8 + 1
 }
 
-// Whether the lent bytes begin with the answer.
-fn begins(out: &[u8; LENT], answer: &[u8]) -> bool {
-    if LENT < answer.len() {
-        return false;
-    }
-    let mut i: usize = 0;
-    while i < answer.len() {
-        if out[i] != answer[i] {
-            return false;
-        }
-        i += 1;
-    }
-    true
-}
-
-// Whether nothing was written from a place on.
-fn is_as_it_was(out: &[u8; LENT], from: usize) -> bool {
-    let mut i = from;
-    while i < LENT {
-        if out[i] != AS_IT_WAS {
-            return false;
-        }
-        i += 1;
-    }
-    true
-}
-
 // Asks an entry that is lent room.
 fn ask(book: &[u8], q: Query, room: &mut [u8]) -> Reply {
-    let entry = q.entry;
-    match entry {
+    Reply::from(match q.entry {
         WINDOW => window_answer(book, q.start, q.end, room),
         TALLY => tally_answer(book, q.start, q.end, room),
         CELLS => cells_answer(book, q.start, q.end, q.columns, q.marked, q.now, room),
         _ => point_answer(book, q.start, room),
-    }
+    })
 }
 
 // Asks with the front of these bytes as the room.
@@ -146,8 +104,8 @@ fn is_lent(book: &[u8], q: Query, room: usize, expected: usize, answer: &[u8]) -
     let reply = asked(book, q, &mut out, room);
     (reply.number as usize == expected)
         & (reply.length == answer.len())
-        & begins(&out, answer)
-        & is_as_it_was(&out, answer.len())
+        & out.starts_with(answer)
+        & out.iter().skip(answer.len()).all(|byte| *byte == AS_IT_WAS)
 }
 
 // Whether a row gets this number and this class, which the list has in 4 bytes. Beside a refusal it is 0.
@@ -155,8 +113,8 @@ fn is_class(row: &[u8], at: i64, expected: usize, answer: &[u8]) -> bool {
     if answer.len() != 4 {
         return false;
     }
-    let reply = class_answer(row, at);
-    (reply.number as usize == expected) & (reply.shown == get4(answer, 0))
+    let reply = ClassReply::from(class_answer(row, at));
+    (reply.number as usize == expected) & (reply.shown == u32::get(answer, 0))
 }
 
 // Whether rows get this number and these counts, which the list has in 8 bytes each. Beside a refusal they are 0.
@@ -164,18 +122,17 @@ fn is_count(rows: &[u8], at: i64, expected: usize, answer: &[u8]) -> bool {
     if answer.len() != 32 {
         return false;
     }
-    let reply = count_answer(rows, at);
+    let reply = CountReply::from(count_answer(rows, at));
     (reply.number as usize == expected)
-        & (reply.venues == get8(answer, 0))
-        & (reply.trading == get8(answer, 8))
-        & (reply.not_trading == get8(answer, 16))
-        & (reply.not_known == get8(answer, 24))
+        & (reply.venues == u64::get(answer, 0))
+        & (reply.trading == u64::get(answer, 8))
+        & (reply.not_trading == u64::get(answer, 16))
+        & (reply.not_known == u64::get(answer, 24))
 }
 
 // Whether the list's reply is given. The book may be a row.
 fn is_answered(book: &[u8], q: Query, room: usize, expected: usize, answer: &[u8]) -> bool {
-    let entry = q.entry;
-    match entry {
+    match q.entry {
         CLASS => is_class(book, q.start, expected, answer),
         ROWS => is_count(book, q.start, expected, answer),
         _ => is_lent(book, q, room, expected, answer),
@@ -213,7 +170,7 @@ fn kind_place(entry: u8, answer: &[u8]) -> u8 {
     if answer.len() < records::HEAD {
         return NO_ANSWER;
     }
-    let kind = get2(answer, KIND);
+    let kind = u16::get(answer, KIND);
     if kind == PHASE_KIND {
         return KNOWN;
     }
@@ -228,11 +185,11 @@ fn kind_place(entry: u8, answer: &[u8]) -> u8 {
 fn query_of(list: &[u8], entry: u8) -> Query {
     Query {
         entry,
-        start: unplace(number(list, 0, 5)),
-        end: unplace(number(list, 0, 6)),
-        columns: unplace(number(list, 0, 7)),
+        start: i64::from(number(list, 0, 5)),
+        end: i64::from(number(list, 0, 6)),
+        columns: i64::from(number(list, 0, 7)),
         marked: 0 < count(number(list, 0, 8)),
-        now: unplace(number(list, 0, 9)),
+        now: i64::from(number(list, 0, 9)),
     }
 }
 
@@ -240,10 +197,10 @@ fn query_of(list: &[u8], entry: u8) -> Query {
 fn compare_zeros(list: &[u8], entry: u8, counts: &mut [u64]) -> usize
     ensures { (1 ≤ result) × (result < 2 ^ 34) }
 {
-    let expected = count(number(list, 0, 0));
-    let to = HEAD + count(number(list, 0, 1));
-    let length = count(number(list, 0, 2));
-    let room = count(number(list, 0, 3));
+    let expected = count(number(list, 0, 0)) as usize;
+    let to = HEAD + count(number(list, 0, 1)) as usize;
+    let length = count(number(list, 0, 2)) as usize;
+    let room = count(number(list, 0, 3)) as usize;
     if list.len() < to {
         met(counts, STRANGE, true);
         return 1;
@@ -262,10 +219,10 @@ fn compare_zeros(list: &[u8], entry: u8, counts: &mut [u64]) -> usize
 fn compare_book(list: &[u8], entry: u8, counts: &mut [u64]) -> usize
     ensures { (1 ≤ result) × (result < 2 ^ 34) }
 {
-    let expected = count(number(list, 0, 0));
-    let from = HEAD + count(number(list, 0, 2));
-    let to = from + count(number(list, 0, 1));
-    let room = count(number(list, 0, 3));
+    let expected = count(number(list, 0, 0)) as usize;
+    let from = HEAD + count(number(list, 0, 2)) as usize;
+    let to = from + count(number(list, 0, 1)) as usize;
+    let room = count(number(list, 0, 3)) as usize;
     if list.len() < to {
         met(counts, STRANGE, true);
         return 1;
@@ -310,44 +267,27 @@ fn all_records(list: &[u8], counts: &mut [u64]) {
     }
 }
 
-// The next block of the file. It answers whether there was one.
-fn next_block(list: &mut File, counts: &mut [u64]) -> Result<bool> {
-    let mut block = [0u8; BLOCK_BYTES];
-    let n = read_full(list, &mut block)?;
-    all_records(&block[..n], counts);
-    Ok(0 < n)
-}
-
-fn all_blocks(list: &mut File, counts: &mut [u64]) -> Result<()> {
-    for _ in 0..BLOCKS {
-        if !next_block(list, counts)? {
-            break;
-        }
-    }
-    Ok(())
-}
-
 fn told_kinds(rt: &HostRuntime, counts: &[u64]) -> Result<()> {
-    report(rt, b"answered ", counts, 1)?;
-    report(rt, b"known points ", counts, KNOWN)?;
-    report(rt, b"unknown points ", counts, UNKNOWN)?;
-    report(rt, b"windows ", counts, ENTRIES + WINDOW)?;
-    report(rt, b"tallies ", counts, ENTRIES + TALLY)?;
-    report(rt, b"cells ", counts, ENTRIES + CELLS)?;
-    report(rt, b"classes ", counts, ENTRIES + CLASS)?;
-    report(rt, b"counts ", counts, ENTRIES + ROWS)
+    report(rt, "answered", counts, 1)?;
+    report(rt, "known points", counts, KNOWN)?;
+    report(rt, "unknown points", counts, UNKNOWN)?;
+    report(rt, "windows", counts, ENTRIES + WINDOW)?;
+    report(rt, "tallies", counts, ENTRIES + TALLY)?;
+    report(rt, "cells", counts, ENTRIES + CELLS)?;
+    report(rt, "classes", counts, ENTRIES + CLASS)?;
+    report(rt, "counts", counts, ENTRIES + ROWS)
 }
 
 fn told_numbers(rt: &HostRuntime, counts: &[u64]) -> Result<()> {
     report_refusals(rt, counts, KNOWN)?;
-    report(rt, b"differences ", counts, 0)?;
-    report(rt, b"bytes of the list not understood ", counts, STRANGE)
+    report(rt, "differences", counts, 0)?;
+    report(rt, "bytes of the list not understood", counts, STRANGE)
 }
 
 fn main(rt: HostRuntime) -> Result<()> {
     let mut list = File::open(&rt, "list")?;
     let mut counts = [0u64; PLACES];
-    all_blocks(&mut list, &mut counts)?;
+    each_block(&mut list, |block| all_records(block, &mut counts))?;
     told_kinds(&rt, &counts)?;
     told_numbers(&rt, &counts)
 }

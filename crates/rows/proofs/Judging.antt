@@ -2,16 +2,13 @@
 use mathlib.Core.Path.{◌≡◌, sym, ap, ap₂, ◌∙◌}
 use mathlib.Core.Bool.{Bool, true, false, ◌&&◌, ◌||◌}
 use mathlib.Core.List.{List}
-use Prim.Native.Nat.{ℕ, ◌+◌, ◌-◌, ◌*◌, ◌^◌, ◌≤◌, ◌<◌}
-use native.Mathlib.Omega.{arith}
-use native.Mathlib.Decide.{ℕ_discrete}
-use borrow.Author.Tests.{le-leb, lt-leb, le-ltb, lt-ltb, eq-eqb, ne_eqb}
-use lib.Dec.{ltb, leb, eqb}
+use Prim.Native.Nat.{ℕ, ◌+◌, ◌≤◌, ◌<◌}
+use borrow.Author.Tests.{le-ltb, lt-ltb, eq-eqb, ne_eqb}
+use lib.Dec.{ltb, leb}
 use lib.ListN.{length}
-use Rattle.wire.specs.Fields.{field}
+use Rattle.std.specs.Prelude.{None, Some}
 use Rattle.wire.specs.declared.sign.Placed.{Placed}
-use Rattle.records.specs.Layout.{size, number, kind}
-use Rattle.records.proofs.Frames.{size_by}
+use Rattle.records.specs.Layout.{number, kind}
 use Rattle.answer.specs.Forms
 use Rattle.answer.specs.Forms.{phase_kind, phase_length, gap_kind, gap_length, event_kind, event_length, mark_kind, mark_length, phase_size, gap_size}
 use Rattle.rows.specs.Rows.{from_at, to_at, count_at, framed, good_phase, good_gap, good_segment, good_event, good_mark}
@@ -19,28 +16,7 @@ use Rattle.rows.specs.Telling.{segment_of, stands_at}
 use Rattle.rows.specs.declared.Shows.TheVariants.{Phase, Unknown}
 use Rattle.rows.specs.declared.Stands.TheVariants as Stands
 
-at_once : (z y l k : ℕ) → z < 2 ^ 16 → l < 2 ^ 16 → eqb (z + 2 ^ 16 * y) (l + 2 ^ 16 * k) ≡ (eqb z l && eqb y k)
-at_once z y l k u v = go (ℕ_discrete z l) (ℕ_discrete y k)
-  where
-    go : Dec (z ≡ l) → Dec (y ≡ k) → eqb (z + 2 ^ 16 * y) (l + 2 ^ 16 * k) ≡ (eqb z l && eqb y k)
-    go (yes a) (yes b) = simp (eq-eqb (z + 2 ^ 16 * y) (l + 2 ^ 16 * k) (omega arith), eq-eqb z l a, eq-eqb y k b)
-    go (yes a) (no b) = simp (ne_eqb (z + 2 ^ 16 * y) (l + 2 ^ 16 * k) (λ e. b (omega arith)), ne_eqb y k b, eq-eqb z l a)
-    go (no a) d = simp (ne_eqb (z + 2 ^ 16 * y) (l + 2 ^ 16 * k) (λ e. a (omega arith)), ne_eqb z l a)
-
 module _ (s : List ℕ) (at : ℕ) where
-  pub framed_short : (k l : ℕ) → at ≤ length s → length s - at < size.width + l → false ≡ framed k l s at
-  framed_short k l i h = let z : length s < at + size.width + l = omega arith in simp (lt-leb (at + size.width + l) (length s) z)
-
-  pub framed_by : (k l z y : ℕ) → at ≤ length s → size.width + l ≤ length s - at → z ≡ field 2 s at → y ≡ number kind s at → (eqb z l && eqb y k) ≡ framed k l s at
-  framed_by k l z y i h a b =
-      let w : at + size.width + l ≤ length s = omega arith in
-      rw (size_by s at z a, b) (simp (le-leb (at + size.width + l) (length s) w))
-
-  -- the two compared as one number
-  pub framed_at_once : (k l z y : ℕ) → at ≤ length s → size.width + l ≤ length s - at → z ≡ field 2 s at → y ≡ number kind s at → z < 2 ^ 16 → l < 2 ^ 16
-      → eqb (z + 2 ^ 16 * y) (l + 2 ^ 16 * k) ≡ framed k l s at
-  framed_at_once k l z y i h a b u v = at_once z y l k u v ∙ framed_by k l z y i h a b
-
   pub phase_unframed : framed phase_kind phase_length s at ≡ false → false ≡ good_phase s at
   unfolding good_phase
   phase_unframed e = simp e
@@ -82,41 +58,41 @@ module _ (s : List ℕ) (at : ℕ) where
 
 module _ (marks : Bool) (s : List ℕ) (at least n : ℕ) where
   module _ (h : 0 < n) where
-    pub event_stands : good_event s at ≡ true → Stands.Event ≡ stands_at marks s at least n
+    pub event_stands : good_event s at ≡ true → Some Stands.Event ≡ stands_at marks s at least n
     unfolding stands_at
     event_stands e = simp (lt-ltb 0 n h, e)
 
-    pub no_event : good_event s at ≡ false → Stands.Bad ≡ stands_at marks s at least n
+    pub no_event : good_event s at ≡ false → None ≡ stands_at marks s at least n
     unfolding stands_at
     no_event e = simp (lt-ltb 0 n h, e)
 
   module _ (h : n ≤ 0) where
-    pub end_stands : at ≡ length s → Stands.End ≡ stands_at marks s at least n
+    pub end_stands : at ≡ length s → Some Stands.End ≡ stands_at marks s at least n
     unfolding stands_at
     end_stands e = simp (le-ltb 0 n h, eq-eqb at (length s) e)
 
     module _ (o : at ≡ length s → ⊥) where
       module _ (g : good_segment s at ≡ true) (x : ℕ) (f : x ≡ from_at s at) where
-        pub early : x < least → Stands.Bad ≡ stands_at marks s at least n
+        pub early : x < least → None ≡ stands_at marks s at least n
         unfolding stands_at
         early l = simp (le-ltb 0 n h, ne_eqb at (length s) o, g, lt-ltb (from_at s at) least (rw f at l))
 
-        pub segment_stands : least ≤ x → Stands.Segment ≡ stands_at marks s at least n
+        pub segment_stands : least ≤ x → Some Stands.Segment ≡ stands_at marks s at least n
         unfolding stands_at
         segment_stands l = simp (le-ltb 0 n h, ne_eqb at (length s) o, g, le-ltb (from_at s at) least (rw f at l))
 
       module _ (g : good_segment s at ≡ false) where
-        pub mark_stands : (marks && good_mark s at) ≡ true → Stands.Mark ≡ stands_at marks s at least n
+        pub mark_stands : (marks && good_mark s at) ≡ true → Some Stands.Mark ≡ stands_at marks s at least n
         unfolding stands_at
         mark_stands m = simp (le-ltb 0 n h, ne_eqb at (length s) o, g, m)
 
-        pub nothing_stands : (marks && good_mark s at) ≡ false → Stands.Bad ≡ stands_at marks s at least n
+        pub nothing_stands : (marks && good_mark s at) ≡ false → None ≡ stands_at marks s at least n
         unfolding stands_at
         nothing_stands m = simp (le-ltb 0 n h, ne_eqb at (length s) o, g, m)
 
 -- ---- a segment, made of what was read
 
-module _ (s : List ℕ) (at : ℕ) (p q : Placed) (e : p.0 ≡ from_at s at) (f : q.0 ≡ to_at s at) where
+module _ (s : List ℕ) (at : ℕ) (p q : Placed ℕ) (e : p.0 ≡ from_at s at) (f : q.0 ≡ to_at s at) where
   pub phase_made : number kind s at ≡ phase_kind → (a b n : ℕ) → a ≡ number Forms.phase_place s at → b ≡ number Forms.evidence_place s at → n ≡ count_at s at
       → record { from = p; to = q; shows = Phase a b; events = n; behind = at + phase_size } ≡ segment_of s at
   phase_made k a b n i j l =

@@ -1,5 +1,5 @@
 -- What it means that something stands at a place: whether the bytes from there on are good, and where the reading goes on. Assumes nothing.
-use mathlib.Core.Path.{◌≡◌, refl, sym, ◌∙◌, subst}
+use mathlib.Core.Path.{◌≡◌, refl, sym, ap, ◌∙◌, subst}
 use mathlib.Core.Bool.{Bool, true, false, cond, ◌&&◌, ◌||◌}
 use mathlib.Core.List.{List}
 use Prim.Native.Nat.{ℕ, zero, suc, ◌+◌, ◌-◌, ◌*◌, ◌≤◌, ◌<◌}
@@ -7,6 +7,7 @@ use native.Mathlib.Omega.{arith}
 use borrow.Author.Tests.{ltb-true, ltb-false, eqb-true, eqb-false}
 use lib.Dec.{ltb, eqb}
 use lib.ListN.{length}
+use Rattle.std.specs.Prelude.{Option, None, Some}
 use Rattle.wire.proofs.Signs.{and_true}
 use Rattle.records.proofs.Tests.{or_false}
 use Rattle.answer.specs.Forms.{event_size, mark_size}
@@ -46,12 +47,12 @@ module _ (marks : Bool) (s : List ℕ) (at least n : ℕ) where
     pub on : good_on marks s at least n ≡ good_on marks s (at + event_size) least (n - 1)
     pub same : at + event_size * n ≡ at + event_size + event_size * (n - 1)
 
-  abbrev pub Tells : Stands → Type 0
-  Tells Stands.Bad = good_on marks s at least n ≡ false
-  Tells Stands.End = Ends
-  Tells Stands.Mark = Anew
-  Tells Stands.Segment = Sees
-  Tells Stands.Event = Happens
+  abbrev pub Tells : Option Stands → Type 0
+  Tells None = good_on marks s at least n ≡ false
+  Tells (Some Stands.End) = Ends
+  Tells (Some Stands.Mark) = Anew
+  Tells (Some Stands.Segment) = Sees
+  Tells (Some Stands.Event) = Happens
 
   -- where no event is to come, all depends on what follows
   fresh : (b : ℕ) → good_on marks s b 0 0 ≡ good_at marks s b 0
@@ -103,7 +104,7 @@ module _ (marks : Bool) (s : List ℕ) (at least n : ℕ) where
       where
         go : (a b c d e f : Bool) → ltb 0 n ≡ a → good_event s at ≡ b → eqb at (length s) ≡ c → good_segment s at ≡ d
             → ltb (from_at s at) least ≡ e → (marks && good_mark s at) ≡ f
-            → Tells (cond a (cond b Stands.Event Stands.Bad) (cond c Stands.End (cond d (cond e Stands.Bad Stands.Segment) (cond f Stands.Mark Stands.Bad))))
+            → Tells (cond a (cond b (Some Stands.Event) None) (cond c (Some Stands.End) (cond d (cond e None (Some Stands.Segment)) (cond f (Some Stands.Mark) None))))
         go true true c d e f i j k l m o =
             let p = ltb-true 0 n i in
             record { some = p; event = j; inside = event_holds s at j; on = event_on p j; same = omega arith }
@@ -134,8 +135,15 @@ module _ (marks : Bool) (s : List ℕ) (at least n : ℕ) where
             let p = or_false (good_phase s at) (good_gap s at) l in
             looked (ltb-false 0 n i) ∙ other marks s at least (omega (arith, h, eqb-false at (length s) k)) p.0 p.1 o (length s)
 
-    pub told : {x : Stands} → stands_at marks s at least n ≡ x → Tells x
+    told : {x : Option Stands} → stands_at marks s at least n ≡ x → Tells x
     told e = subst Tells e tells
+
+    -- by what was answered: something, or nothing good
+    pub stood : {r : Option Stands} {x y : Stands} → r ≡ stands_at marks s at least n → r ≡ Some y → y ≡ x → Tells (Some x)
+    stood e f g = told (sym e ∙ f ∙ ap Some g)
+
+    pub fell : {r : Option Stands} → r ≡ stands_at marks s at least n → r ≡ None → good_on marks s at least n ≡ false
+    fell e f = told (sym e ∙ f)
 
 -- ---- a reading goes on: what it began with is good if what is left is
 

@@ -2,7 +2,7 @@
 use mathlib.Core.Path.{◌≡◌, refl, sym, ap, ap₂, ◌∙◌}
 use mathlib.Core.Bool.{Bool, true, false, ◌&&◌}
 use mathlib.Core.List.{List, [], ◌∷◌, ◌++◌, append_assoc}
-use mathlib.Core.Option.{Option, none, some}
+use Rattle.std.specs.Prelude.{Option, None, Some}
 use Prim.Native.Nat.{ℕ, zero, suc, ◌+◌, ◌*◌, ◌≤◌, ◌<◌}
 use native.Mathlib.Omega.{arith}
 use borrow.Author.Tests.{le-leb, lt-ltb, eq-eqb}
@@ -80,8 +80,8 @@ module _ (s : List ℕ) (at : ℕ) where
     to : to_at s at ≡ instant g.end
 
   present_is : (c : Option Forms.Cover) → Says (cover_fields Forms.end c) s at 20 → leb (number (Forms.present_behind Forms.end) s at) 1 ≡ true
-  present_is none u = small (Forms.present_behind Forms.end) 0 1 u.0 (omega arith)
-  present_is (some c) u = small (Forms.present_behind Forms.end) 1 1 u.0 (omega arith)
+  present_is None u = small (Forms.present_behind Forms.end) 0 1 u.0 (omega arith)
+  present_is (Some c) u = small (Forms.present_behind Forms.end) 1 1 u.0 (omega arith)
 
   gap_is : (g : Forms.Gap) (least : ℕ) → GoodGap least g → at + gap_size ≤ length s → Says (all_fields (unknown g)) s at 0 → GapIs g
   unfolding good_gap

@@ -1,6 +1,6 @@
 -- Small rows, judged and read. Assumes nothing.
 use Rattle.std.specs.Prelude.{◌≡◌, refl, Bool, true, false, List, [], ◌∷◌, ◌++◌, map, ℕ, ◌+◌, ◌-◌, ℤ, pos, negsuc, take, set}
-use Rattle.std.proofs.Math.Option.{none}
+use Rattle.std.specs.Prelude.{None}
 use Rattle.wire.specs.Fields.{field, bytes, laid}
 use Rattle.wire.specs.Signs.{placed}
 use Rattle.zone.specs.Answers.{Values}
@@ -17,7 +17,7 @@ side z t = record { at = z; uncertainty = tagged t }
 
 -- nothing known from a to b
 abbrev gap : ℤ → ℤ → Form
-gap a b = unknown (record { start = a; end = b; coverage = none })
+gap a b = unknown (record { start = a; end = b; coverage = None })
 
 -- a phase p of a rule of the code c, from a to b, with a tag of its start, its end and the whole, that counts n events
 abbrev phased : ℕ → ℕ → ℤ → ℤ → ℕ → ℕ → ℕ → ℕ → Form
@@ -94,7 +94,7 @@ examples =
     ∷ altered two phase_size (event_length - 1)
     ∷ altered (mark 1 ∷ []) 0 (mark_length + 1)
     -- a kind other than 16, 17 and 18: a point unknown, a day row, a tally, a book's, and a mark in a single row
-    ∷ of (point (record { at = pos 0; coverage = none }) ∷ []) false false
+    ∷ of (point (record { at = pos 0; coverage = None }) ∷ []) false false
     ∷ of (day totals ∷ []) false false
     ∷ of (tally totals ∷ []) false false
     ∷ altered one 2 1

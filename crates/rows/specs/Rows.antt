@@ -7,7 +7,7 @@ use Rattle.records.specs.Layout.{Place, number, size, kind}
 use Rattle.spans.specs.Spans.{Mark, phase, unknown, Span, look}
 use Rattle.answer.specs.Forms
 use Rattle.answer.specs.Forms.{phase_kind, phase_length, gap_kind, gap_length, event_kind, event_length, mark_kind, mark_length, phase_size, gap_size, event_size, mark_size}
-use Rattle.std.proofs.Math.Option.{Option}
+use Rattle.std.specs.Prelude.{Option}
 use Rattle.records.specs.Book.{last_phase, last_code}
 
 -- ---- the fields of a record at `at`

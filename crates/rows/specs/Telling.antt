@@ -10,6 +10,7 @@ use Rattle.rows.specs.declared.Shows.{Shows}
 use Rattle.rows.specs.declared.Shows.TheVariants.{Phase, Unknown}
 use Rattle.rows.specs.declared.RowSegment.{RowSegment}
 use Rattle.rows.specs.declared.Stands.{Stands}
+use Rattle.std.specs.Prelude.{Option, None, Some}
 
 -- ---- a segment
 
@@ -51,13 +52,13 @@ abbrev pub good_on : Bool → List ℕ → ℕ → ℕ → ℕ → Bool
 good_on marks s at least n = good_events s at n && good_at marks s (at + event_size * n) least
 
 -- what stands there
-unfoldable pub stands_at : Bool → List ℕ → ℕ → ℕ → ℕ → Stands
+unfoldable pub stands_at : Bool → List ℕ → ℕ → ℕ → ℕ → Option Stands
 stands_at marks s at least n =
-    cond (ltb 0 n) (cond (good_event s at) Stands.Event Stands.Bad)
-    (cond (eqb at (length s)) Stands.End
+    cond (ltb 0 n) (cond (good_event s at) (Some Stands.Event) None)
+    (cond (eqb at (length s)) (Some Stands.End)
     (cond (good_segment s at)
-    (cond (ltb (from_at s at) least) Stands.Bad Stands.Segment)
-    (cond (marks && good_mark s at) Stands.Mark Stands.Bad)))
+    (cond (ltb (from_at s at) least) None (Some Stands.Segment))
+    (cond (marks && good_mark s at) (Some Stands.Mark) None)))
 
 -- ---- marked rows
 

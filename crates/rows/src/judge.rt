@@ -8,7 +8,7 @@ use crate::Stands;
 use crate::reading::read_segment;
 use answer::*;
 use records::{KIND, LAST_CODE, LAST_PHASE};
-use wire::{get1, get2, signed8};
+use wire::{Field, Placed};
 
 const WORD: u32 = 0x1_0000;
 
@@ -22,7 +22,7 @@ fn framed(bytes: &[u8], at: usize, kind: u16, size: u16) -> bool
     if bytes.len() - at < 2 + size as usize {
         return false;
     }
-    let head = get2(bytes, at) as u32 + WORD * (get2(bytes, at + KIND) as u32);
+    let head = u16::get(bytes, at) as u32 + WORD * (u16::get(bytes, at + KIND) as u32);
     head == size as u32 + WORD * (kind as u32)
 }
 
@@ -33,13 +33,13 @@ fn good_phase(bytes: &[u8], at: usize) -> bool
     if !framed(bytes, at, PHASE_KIND, PHASE_LENGTH) {
         return false;
     }
-    let phase = get1(bytes, at + PHASE);
-    let code = get1(bytes, at + CODE);
-    let first = get1(bytes, at + FROM_TAG);
-    let last = get1(bytes, at + TO_TAG);
-    let whole = get1(bytes, at + WHOLE_TAG);
-    let start = signed8(bytes, at + START).0;
-    let end = signed8(bytes, at + END).0;
+    let phase = u8::get(bytes, at + PHASE);
+    let code = u8::get(bytes, at + CODE);
+    let first = u8::get(bytes, at + FROM_TAG);
+    let last = u8::get(bytes, at + TO_TAG);
+    let whole = u8::get(bytes, at + WHOLE_TAG);
+    let start = Placed::<u64>::get(bytes, at + START).0;
+    let end = Placed::<u64>::get(bytes, at + END).0;
     ((phase <= LAST_PHASE) & (code <= LAST_CODE))
         & ((((first <= LAST_TAG) & (last <= LAST_TAG)) & (whole <= LAST_TAG)) & (start < end))
 }
@@ -51,9 +51,9 @@ fn good_gap(bytes: &[u8], at: usize) -> bool
     if !framed(bytes, at, GAP_KIND, GAP_LENGTH) {
         return false;
     }
-    let present = get1(bytes, at + PRESENT);
-    let start = signed8(bytes, at + START).0;
-    let end = signed8(bytes, at + END).0;
+    let present = u8::get(bytes, at + PRESENT);
+    let start = Placed::<u64>::get(bytes, at + START).0;
+    let end = Placed::<u64>::get(bytes, at + END).0;
     (present <= 1) & (start < end)
 }
 
@@ -64,33 +64,34 @@ fn good_event(bytes: &[u8], at: usize) -> bool
     if !framed(bytes, at, EVENT_KIND, EVENT_LENGTH) {
         return false;
     }
-    get1(bytes, at + EVENT_TAG) <= LAST_TAG
+    u8::get(bytes, at + EVENT_TAG) <= LAST_TAG
 }
 
-// What stands at a place, where a mark may stand or not. A segment may not start before `least`, and so many events are still to come.
-pub fn stands_at(bytes: &[u8], at: usize, least: u64, waiting: u32, marks: bool) -> Stands
+// What stands at a place, where a mark may stand or not; none where nothing good does. A segment may not start before `least`, and so many
+// events are still to come.
+pub fn stands_at(bytes: &[u8], at: usize, least: u64, waiting: u32, marks: bool) -> Option<Stands>
     requires { at ≤ length bytes.now }
     ensures { result ≡ stands_at marks bytes.now at least waiting }
 {
     if 0 < waiting {
         if good_event(bytes, at) {
-            return Stands::Event;
+            return Some(Stands::Event);
         }
-        return Stands::Bad;
+        return None;
     }
     if at == bytes.len() {
-        return Stands::End;
+        return Some(Stands::End);
     }
     if good_phase(bytes, at) | good_gap(bytes, at) {
-        if signed8(bytes, at + START).0 < least {
-            return Stands::Bad;
+        if Placed::<u64>::get(bytes, at + START).0 < least {
+            return None;
         }
-        return Stands::Segment;
+        return Some(Stands::Segment);
     }
     if marks & framed(bytes, at, MARK_KIND, MARK_LENGTH) {
-        return Stands::Mark;
+        return Some(Stands::Mark);
     }
-    Stands::Bad
+    None
 }
 
 // Whether bytes are a single row, without marks.
@@ -102,25 +103,24 @@ pub fn good_row(row: &[u8]) -> bool
     let mut waiting: u32 = 0;
     loop {
         match stands_at(row, at, least, waiting, false) {
-            Stands::Bad => {
-                return false;
-            }
-            Stands::End => {
-                return true;
-            }
-            Stands::Mark => {
-                return false;
-            }
-            Stands::Segment => {
+            Some(Stands::Segment) => {
                 let g = read_segment(row, at);
-                let to = g.to;
                 at = g.behind;
-                least = to.0;
+                least = g.to.0;
                 waiting = g.events;
             }
-            Stands::Event => {
+            Some(Stands::Event) => {
                 at += EVENT_SIZE;
                 waiting -= 1;
+            }
+            Some(Stands::End) => {
+                return true;
+            }
+            Some(Stands::Mark) => {
+                return false;
+            }
+            None => {
+                return false;
             }
         }
     }

@@ -8,23 +8,23 @@ ghost use Rattle.rows.specs.Telling.{segment_of, end_of};
 use crate::{Event, RowSegment, Shows};
 use answer::*;
 use records::KIND;
-use wire::{get1, get2, get4, signed8};
+use wire::{Field, Placed};
 
 // The segment that stands at a place.
 pub fn read_segment(bytes: &[u8], at: usize) -> RowSegment
     requires { good_segment bytes.now at ≡ true }
     ensures { result ≡ segment_of bytes.now at }
 {
-    let from = signed8(bytes, at + START);
-    let to = signed8(bytes, at + END);
-    if get2(bytes, at + KIND) == PHASE_KIND {
-        let phase = get1(bytes, at + PHASE);
-        let evidence = get2(bytes, at + EVIDENCE);
+    let from = Placed::<u64>::get(bytes, at + START);
+    let to = Placed::<u64>::get(bytes, at + END);
+    if u16::get(bytes, at + KIND) == PHASE_KIND {
+        let phase = u8::get(bytes, at + PHASE);
+        let evidence = u16::get(bytes, at + EVIDENCE);
         return RowSegment {
             from,
             to,
             shows: Shows::Phase(phase, evidence),
-            events: get4(bytes, at + COUNT),
+            events: u32::get(bytes, at + COUNT),
             behind: at + PHASE_SIZE,
         };
     }
@@ -50,8 +50,8 @@ pub fn read_event(bytes: &[u8], at: usize) -> Event
     requires { Inside at event_size bytes.now }
     ensures { (result.at.0 ≡ (event_of bytes.now at).at) × (result.code ≡ (event_of bytes.now at).code) × (result.behind ≡ at + event_size) }
 {
-    let at_event = signed8(bytes, at + EVENT_AT);
-    let code = get2(bytes, at + EVENT_CODE);
+    let at_event = Placed::<u64>::get(bytes, at + EVENT_AT);
+    let code = u16::get(bytes, at + EVENT_CODE);
     Event {
         at: at_event,
         code: code,

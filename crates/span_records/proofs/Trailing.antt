@@ -11,8 +11,8 @@ use Rattle.records.proofs.Laid.{laid_length}
 use Rattle.events.specs.Happenings.{by_instant}
 use Rattle.events.specs.Seeking.{from_here, better, met, sought, begin, in_turn}
 use Rattle.events.specs.declared.Occurrence.{Occurrence}
-use Rattle.events.specs.declared.Best.{Best}
-use Rattle.events.specs.declared.Best.TheVariants.{None, Some}
+use Rattle.std.specs.Prelude.{Option}
+use Rattle.std.specs.Prelude.{None, Some}
 use Rattle.events.specs.declared.Search.{Search}
 use Rattle.events.proofs.Order.{length_sorted}
 use Rattle.events.proofs.Turns.{begun_count, in_turn_law}
@@ -34,15 +34,15 @@ events_length (o ∷ os) =
 
 -- ---- the number of the best is below the count
 
-abbrev pub Below : Best → ℕ → Type 0
+abbrev pub Below : Option (Occurrence × ℕ) → ℕ → Type 0
 Below None n = Unit {0}
-Below (Some o i) n = i < n
+Below (Some (o, i)) n = i < n
 
-below_more : (b : Best) (n : ℕ) → Below b n → Below b (n + 1)
+below_more : (b : Option (Occurrence × ℕ)) (n : ℕ) → Below b n → Below b (n + 1)
 below_more None n h = tt
-below_more (Some o i) n h = omega arith
+below_more (Some (o, i)) n h = omega arith
 
-below_met : (q : Bool) (b : Best) (o : Occurrence) (n : ℕ) → Below b n → Below (cond q (Some o n) b) (n + 1)
+below_met : (q : Bool) (b : Option (Occurrence × ℕ)) (o : Occurrence) (n : ℕ) → Below b n → Below (cond q (Some (o, n)) b) (n + 1)
 below_met true b o n h = omega arith
 below_met false b o n h = below_more b n h
 
@@ -54,9 +54,9 @@ below_sought s (o ∷ os) h = below_sought (met s o) os (below_met (from_here s.
 pub below_begun : (at index : ℕ) (os : List Occurrence) → Below (sought (begin at index) os).best (length os)
 below_begun at index os = go (sought (begin at index) os).best (below_sought (begin at index) os tt)
   where
-    go : (b : Best) → Below b (sought (begin at index) os).count → Below b (length os)
+    go : (b : Option (Occurrence × ℕ)) → Below b (sought (begin at index) os).count → Below b (length os)
     go None h = tt
-    go (Some o i) h = omega (arith, begun_count at index os refl)
+    go (Some (o, i)) h = omega (arith, begun_count at index os refl)
 
 -- no events are no bytes
 pub put_none : {os : List Occurrence} (room : List ℕ) (at : ℕ) → os ≡ [] → Put room at (encode_all (map event_form (by_instant os))) (event_size * length os) room at
@@ -72,7 +72,7 @@ no_turn os zero = refl
 no_turn os (suc n) = refl
 
 module _ (os : List Occurrence) (room : List ℕ) (at : ℕ) where
-  pub record Trailing (now : List ℕ) (place i : ℕ) (best : Best) : Type 0 where
+  pub record Trailing (now : List ℕ) (place i : ℕ) (best : Option (Occurrence × ℕ)) : Type 0 where
     pub below : Below best (length os)
     pub left : i + length (in_turn os (length os - i) best) ≡ length os
     pub same : wrote room at (encode_all (map event_form (by_instant os))) ≡ wrote now place (encode_all (map event_form (in_turn os (length os - i) best)))
@@ -80,7 +80,7 @@ module _ (os : List Occurrence) (room : List ℕ) (at : ℕ) where
     pub fits : at + event_size * length os ≤ length room
     pub kept : length now ≡ length room
 
-  pub trail_start : at + event_size * length os ≤ length room → {best : Best} → best ≡ (sought (begin 0 0) os).best → Trailing room at 0 best
+  pub trail_start : at + event_size * length os ≤ length room → {best : Option (Occurrence × ℕ)} → best ≡ (sought (begin 0 0) os).best → Trailing room at 0 best
   trail_start h e =
       let z : length os - 0 ≡ length os = omega arith in
       let q : in_turn os (length os - 0) _ ≡ by_instant os = ap₂ (in_turn os) z e ∙ in_turn_law os in
@@ -93,7 +93,7 @@ module _ (os : List Occurrence) (room : List ℕ) (at : ℕ) where
         kept = refl;
       }
 
-  module _ {now : List ℕ} {place i : ℕ} {best : Best} (w : Trailing now place i best) where
+  module _ {now : List ℕ} {place i : ℕ} {best : Option (Occurrence × ℕ)} (w : Trailing now place i best) where
     -- nothing is left
     over : in_turn os (length os - i) best ≡ [] → Put room at (encode_all (map event_form (by_instant os))) (event_size * length os) now place
     unfolding encode_all
@@ -112,8 +112,8 @@ module _ (os : List Occurrence) (room : List ℕ) (at : ℕ) where
     pub trail_none : best ≡ None → Put room at (encode_all (map event_form (by_instant os))) (event_size * length os) now place
     trail_none e = over (ap (in_turn os (length os - i)) e ∙ no_turn os (length os - i))
 
-    module _ (h : i < length os) (o : Occurrence) (index : ℕ) (e : best ≡ Some o index) where
-      abbrev next : Best
+    module _ (h : i < length os) (o : Occurrence) (index : ℕ) (e : best ≡ Some (o, index)) where
+      abbrev next : Option (Occurrence × ℕ)
       next = (sought (begin o.boundary.at.0 (index + 1)) os).best
 
       turn : in_turn os (length os - i) best ≡ o ∷ in_turn os (length os - (i + 1)) next
@@ -126,7 +126,7 @@ module _ (os : List Occurrence) (room : List ℕ) (at : ℕ) where
       pub trail_room : place + event_size ≤ length now
       trail_room = omega (arith, w.behind, w.fits, w.kept)
 
-      pub trail_one : {now' : List ℕ} {place' : ℕ} {best' : Best} → Put now place (encode (event_form o)) event_size now' place' → best' ≡ next
+      pub trail_one : {now' : List ℕ} {place' : ℕ} {best' : Option (Occurrence × ℕ)} → Put now place (encode (event_form o)) event_size now' place' → best' ≡ next
           → Trailing now' place' (i + 1) best'
       unfolding encode_all
       trail_one {now'} {place'} {best'} p b =

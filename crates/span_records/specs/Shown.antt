@@ -1,12 +1,9 @@
 -- A span of a date as records: kind 16 with its kinds 18 behind it. Assumes nothing.
-use Rattle.std.specs.Prelude.{ℕ, ◌*◌, ◌≤◌, ◌≡◌, List, ◌∷◌, map, length}
-use Rattle.wire.specs.Fields.{Inside, Put}
-use Rattle.zone.specs.Zone.{Zone, zone_of}
-use Rattle.zone.specs.Answers.{Valid}
+use Rattle.std.specs.Prelude.{ℕ, ◌*◌, ◌≡◌, List, ◌∷◌, map, length}
+use Rattle.wire.specs.Fields.{Put}
+use Rattle.zone.specs.Zone.{Zone}
 use Rattle.zone.specs.declared.Uncertainty.{Uncertainty}
-use Rattle.records.specs.Limits.{base}
-use Rattle.records.specs.Records.{Event, event_at}
-use Rattle.venue.specs.Reading.{ListedEvents}
+use Rattle.records.specs.Records.{Event}
 use Rattle.day.specs.Days.{Held, whole as whole_of}
 use Rattle.events.specs.Happenings.{found, events_in}
 use Rattle.events.specs.declared.Occurrence.{Occurrence}
@@ -57,9 +54,3 @@ shown_forms from to x = phase (head_form from to x.held x.whole (length x.events
 pub record Trails (z : Zone) (es : List Event) (from to : ℕ) (old : List ℕ) (at : ℕ) (new : List ℕ) (r : Trail) : Type 0 where
   pub put : Put old at (encode_all (map event_form (events_in z es from to))) (event_size * length (found z es from to)) new r.behind
   pub count : r.count ≡ length (found z es from to)
-
--- what writing them requires: a zone, events at the places, no more than a book may have, and room
-abbrev pub EventsFit : List ℕ → ℕ → List ℕ → List ℕ → List ℕ → ℕ → ℕ → List ℕ → ℕ → Type 0
-EventsFit book first ats offsets events from to out at =
-    Valid first ats offsets × ListedEvents book events × (length events ≤ base.events)
-    × Inside at (event_size * length (found (zone_of first ats offsets) (map (event_at book) events) from to)) out

@@ -3,7 +3,7 @@
 use mathlib.Core.Path.{◌≡◌, refl, sym, ap, subst, ◌∙◌}
 use mathlib.Core.Bool.{Bool, true, false, cond}
 use mathlib.Core.List.{List, [], ◌∷◌}
-use mathlib.Core.Option.{Option, none, some}
+use Rattle.std.specs.Prelude.{Option, None, Some}
 use Prim.Native.Nat.{ℕ, suc, ◌≤◌, ◌<◌, min, max}
 use native.Mathlib.Decide.{dec_lt}
 use native.Mathlib.Omega.{arith}
@@ -70,25 +70,25 @@ module _ {A : Type 0} (v : Venue A) (r : Rule) where
   -- at each instant of a governed date stands a phase with the rule's evidence
   module _ (mark : A → Mark) (e t : ℕ) (shows : (s n : Edge) (p : ℕ) → mark (v.body r s p n) ≡ phase p e) where
     cut_look : (s : Edge) (p : ℕ) (qs : List Point) → s.at ≤ t → t < midnight v (suc s.date)
-        → (k : ℕ) × (look mark (cut v r s p qs) t ≡ some (phase k e))
+        → (k : ℕ) × (look mark (cut v r s p qs) t ≡ Some (phase k e))
     unfolding cut
     cut_look s p [] a b =
         let n = raised v s.at (suc s.date) 0 in
-        (p, keep_in mark t s.at n.at (v.body r s p n) [] a (omega arith) ∙ ap some (shows s n p))
+        (p, keep_in mark t s.at n.at (v.body r s p n) [] a (omega arith) ∙ ap Some (shows s n p))
     cut_look s p (q ∷ qs) a b = go (dec_lt t n.at) (λ h. cut_look n q.phase qs h b)
       where
         n : Edge
         n = raised v s.at s.date q.time
 
-        go : Dec (t < n.at) → (n.at ≤ t → (k : ℕ) × (look mark (cut v r n q.phase qs) t ≡ some (phase k e)))
-            → (k : ℕ) × (look mark (between v r s p n (cut v r n q.phase qs)) t ≡ some (phase k e))
-        go (yes l) f = (p, keep_in mark t s.at n.at (v.body r s p n) (cut v r n q.phase qs) a l ∙ ap some (shows s n p))
+        go : Dec (t < n.at) → (n.at ≤ t → (k : ℕ) × (look mark (cut v r n q.phase qs) t ≡ Some (phase k e)))
+            → (k : ℕ) × (look mark (between v r s p n (cut v r n q.phase qs)) t ≡ Some (phase k e))
+        go (yes l) f = (p, keep_in mark t s.at n.at (v.body r s p n) (cut v r n q.phase qs) a l ∙ ap Some (shows s n p))
         go (no l) f =
             let g = f (omega arith) in
             (g.0, keep_late mark t s.at n.at (v.body r s p n) (cut v r n q.phase qs) (omega arith) ∙ g.1)
 
 -- a governed date's spans run from its first boundary to its last
-pub day_tiles : {A : Type 0} (v : Venue A) (d : ℕ) (r : Rule) (p : Point) (ps : List Point) → v.governing d ≡ some r → r.points ≡ p ∷ ps
+pub day_tiles : {A : Type 0} (v : Venue A) (d : ℕ) (r : Rule) (p : Point) (ps : List Point) → v.governing d ≡ Some r → r.points ≡ p ∷ ps
     → Tile (v.conv d p.time) (last_edge v (raised v 0 d p.time) ps).at (spans v d)
 unfolding spans
 day_tiles {A} v d r p ps g e =
@@ -100,15 +100,15 @@ day_tiles {A} v d r p ps g e =
 module _ {A : Type 0} (v : Venue A) (d : ℕ) where
   module _ (mark : A → Mark) (t : ℕ) (shows : (r : Rule) (s n : Edge) (p : ℕ) → mark (v.body r s p n) ≡ phase p r.evidence) where
     points_look : (r : Rule) (ps : List Point) → Starts ps → midnight v d ≤ t → t < midnight v (suc d)
-        → (k : ℕ) × (look mark (of_points v r d ps) t ≡ some (phase k r.evidence))
+        → (k : ℕ) × (look mark (of_points v r d ps) t ≡ Some (phase k r.evidence))
     points_look r [] s a b = absurd s
     points_look r (p ∷ ps) s a b = cut_look v r mark r.evidence t (shows r) (raised v 0 d p.time) p.phase ps (omega (arith, ap (v.conv d) s)) b
 
-    pub governed : (r : Rule) → v.governing d ≡ some r → Starts r.points → midnight v d ≤ t → t < midnight v (suc d)
-        → (k : ℕ) × (look mark (spans v d) t ≡ some (phase k r.evidence))
+    pub governed : (r : Rule) → v.governing d ≡ Some r → Starts r.points → midnight v d ≤ t → t < midnight v (suc d)
+        → (k : ℕ) × (look mark (spans v d) t ≡ Some (phase k r.evidence))
     unfolding spans
     governed r g s a b = let on = points_look r r.points s a b in (on.0, ap (λ (o : Option Rule). look mark (of_rule v d o) t) g ∙ on.1)
 
-  pub ungoverned : {C : Type 0} (f : A → C) (t : ℕ) → v.governing d ≡ none → look f (spans v d) t ≡ none
+  pub ungoverned : {C : Type 0} (f : A → C) (t : ℕ) → v.governing d ≡ None → look f (spans v d) t ≡ None
   unfolding spans look
   ungoverned f t g = ap (λ (o : Option Rule). look f (of_rule v d o) t) g

@@ -3,7 +3,7 @@
 use mathlib.Core.Path.{◌≡◌, refl, sym, ap, ◌∙◌}
 use mathlib.Core.Bool.{Bool, true, false, cond}
 use mathlib.Core.List.{List, [], ◌∷◌}
-use mathlib.Core.Option.{Option, some}
+use Rattle.std.specs.Prelude.{Option, Some}
 use Prim.Native.Nat.{ℕ, ◌<◌}
 use native.Mathlib.Decide.{dec_lt}
 use native.Mathlib.Omega.{arith}
@@ -68,9 +68,9 @@ module _ {A : Type 0} (B : Body A) where
 
         go : Dec (t < s.from) → Dec (t < s.to) → Dec (t < r.to) → look B.mark (J ∷ rs) t ≡ look B.mark (s ∷ r ∷ rs) t
         go (yes a) b c = look_early B.mark t J rs a ∙ sym (look_early B.mark t s (r ∷ rs) a ∙ look_early B.mark t r rs (omega arith))
-        go (no a) (yes b) c = look_in B.mark t J rs (omega arith) (omega arith) ∙ ap some m ∙ sym (look_in B.mark t s (r ∷ rs) (omega arith) b)
+        go (no a) (yes b) c = look_in B.mark t J rs (omega arith) (omega arith) ∙ ap Some m ∙ sym (look_in B.mark t s (r ∷ rs) (omega arith) b)
         go (no a) (no b) (yes c) =
-            look_in B.mark t J rs (omega arith) c ∙ ap some (m ∙ q)
+            look_in B.mark t J rs (omega arith) c ∙ ap Some (m ∙ q)
             ∙ sym (look_late B.mark t s (r ∷ rs) (omega arith) ∙ look_in B.mark t r rs (omega arith) c)
         go (no a) (no b) (no c) =
             look_late B.mark t J rs (omega arith) ∙ sym (look_late B.mark t s (r ∷ rs) (omega arith) ∙ look_late B.mark t r rs (omega arith))
@@ -86,7 +86,7 @@ module _ {A : Type 0} (B : Body A) where
             → look B.mark (join_from B r rs) t ≡ look B.mark (r ∷ rs) t
             → look B.mark (cond q (join_from B (joined_span B s r) rs) (s ∷ join_from B r rs)) t ≡ look B.mark (s ∷ r ∷ rs) t
         go true e f g = let p = joins_true s r e in f (w.0, omega arith, w.2.2) ∙ one lo hi t s r rs p.0 p.1 w
-        go false e f g = ap (λ (o : Option Mark). cond (holds s t) (some (B.mark s.body)) o) g
+        go false e f g = ap (λ (o : Option Mark). cond (holds s t) (Some (B.mark s.body)) o) g
 
     pub joined_look : (lo hi t : ℕ) (ss : List (Span A)) → Within lo hi ss → look B.mark (joined B ss) t ≡ look B.mark ss t
     unfolding joined

@@ -2,7 +2,7 @@
 use mathlib.Core.Path.{◌≡◌, refl, sym, ◌∙◌}
 use mathlib.Core.Bool.{Bool, true, false, cond, ◌&&◌}
 use mathlib.Core.List.{List, [], ◌∷◌, ◌++◌}
-use mathlib.Core.Option.{none, some}
+use Rattle.std.specs.Prelude.{None, Some}
 use Prim.Native.Nat.{ℕ, ◌≤◌, ◌<◌, min, max}
 use native.Mathlib.Decide.{dec_lt}
 use native.Mathlib.Omega.{arith}
@@ -60,7 +60,7 @@ module _ {A : Type 0} where
   reach_most c h x (s ∷ ss) i w = reach_most s.to h s.to ss (ordered s.to h ss w.2) w.2
 
 module _ {A B : Type 0} (f : A → B) (t : ℕ) where
-  pub look_in : (s : Span A) (ss : List (Span A)) → s.from ≤ t → t < s.to → look f (s ∷ ss) t ≡ some (f s.body)
+  pub look_in : (s : Span A) (ss : List (Span A)) → s.from ≤ t → t < s.to → look f (s ∷ ss) t ≡ Some (f s.body)
   unfolding look
   look_in s ss a b = simp (holds_yes s t a b)
 
@@ -72,33 +72,33 @@ module _ {A B : Type 0} (f : A → B) (t : ℕ) where
   unfolding look
   look_late s ss a = simp (holds_late s t a)
 
-  pub before : (lo hi : ℕ) (ss : List (Span A)) → t < lo → Within lo hi ss → look f ss t ≡ none
+  pub before : (lo hi : ℕ) (ss : List (Span A)) → t < lo → Within lo hi ss → look f ss t ≡ None
   unfolding look
   before lo hi [] h w = refl
   before lo hi (s ∷ ss) h w = look_early s ss (omega arith) ∙ before s.to hi ss (omega arith) w.2
 
-  pub after : (lo hi : ℕ) (ss : List (Span A)) → hi ≤ t → Within lo hi ss → look f ss t ≡ none
+  pub after : (lo hi : ℕ) (ss : List (Span A)) → hi ≤ t → Within lo hi ss → look f ss t ≡ None
   unfolding look
   after lo hi [] h w = refl
   after lo hi (s ∷ ss) h w = look_late s ss (omega (arith, ordered s.to hi ss w.2)) ∙ after s.to hi ss h w.2
 
   -- of two lists in a row, where the second has nothing, or the first
-  pub on_left : (xs ys : List (Span A)) → look f ys t ≡ none → look f (xs ++ ys) t ≡ look f xs t
+  pub on_left : (xs ys : List (Span A)) → look f ys t ≡ None → look f (xs ++ ys) t ≡ look f xs t
   unfolding look
   on_left [] ys e = e
   on_left (s ∷ ss) ys e = simp (on_left ss ys e)
 
-  pub on_right : (xs ys : List (Span A)) → look f xs t ≡ none → look f (xs ++ ys) t ≡ look f ys t
+  pub on_right : (xs ys : List (Span A)) → look f xs t ≡ None → look f (xs ++ ys) t ≡ look f ys t
   unfolding look
   on_right [] ys e = refl
   on_right (s ∷ ss) ys e = go (holds s t) e (λ h. on_right ss ys h)
     where
-      go : (q : Bool) → cond q (some (f s.body)) (look f ss t) ≡ none → (look f ss t ≡ none → look f (ss ++ ys) t ≡ look f ys t)
-          → cond q (some (f s.body)) (look f (ss ++ ys) t) ≡ look f ys t
+      go : (q : Bool) → cond q (Some (f s.body)) (look f ss t) ≡ None → (look f ss t ≡ None → look f (ss ++ ys) t ≡ look f ys t)
+          → cond q (Some (f s.body)) (look f (ss ++ ys) t) ≡ look f ys t
       go true h on = cc
       go false h on = on h
 
-  pub keep_in : (from to : ℕ) (x : A) (rest : List (Span A)) → from ≤ t → t < to → look f (keep from to x rest) t ≡ some (f x)
+  pub keep_in : (from to : ℕ) (x : A) (rest : List (Span A)) → from ≤ t → t < to → look f (keep from to x rest) t ≡ Some (f x)
   unfolding keep
   keep_in from to x rest a b =
       let e : ltb from to ≡ true = lt-ltb from to (omega arith) in
@@ -131,12 +131,12 @@ module _ {A B : Type 0} (f : A → B) (t : ℕ) where
       go on (no p) (yes q) = keep_in (max lo s.from) (min hi s.to) s.body (clip lo hi ss) (omega arith) (omega arith) ∙ sym (look_in s ss (omega arith) q)
 
 -- what is found is a span that holds the instant
-pub look_found : {A B : Type 0} (f : A → B) (t : ℕ) (b : B) (ss : List (Span A)) → look f ss t ≡ some b
+pub look_found : {A B : Type 0} (f : A → B) (t : ℕ) (b : B) (ss : List (Span A)) → look f ss t ≡ Some b
     → (s : Span A) × In s ss × (f s.body ≡ b) × (s.from ≤ t) × (t < s.to)
 unfolding look
 look_found f t b [] e = absurd (none_some e)
   where
-    none_some : none ≡ some b → ⊥
+    none_some : None ≡ Some b → ⊥
     none_some q = let y : ◌≡◌ {A = ℕ} 0 1 = cc in omega arith
 look_found {A} f t b (s ∷ ss) e = go (leb s.from t) refl (ltb t s.to) refl (λ q. look_found f t b ss q) e
   where
@@ -145,8 +145,8 @@ look_found {A} f t b (s ∷ ss) e = go (leb s.from t) refl (ltb t s.to) refl (λ
     more g = (g.0, inr g.1, g.2, g.3, g.4)
 
     go : (p : Bool) → leb s.from t ≡ p → (q : Bool) → ltb t s.to ≡ q
-        → (look f ss t ≡ some b → (r : Span A) × In r ss × (f r.body ≡ b) × (r.from ≤ t) × (t < r.to))
-        → cond (p && q) (some (f s.body)) (look f ss t) ≡ some b
+        → (look f ss t ≡ Some b → (r : Span A) × In r ss × (f r.body ≡ b) × (r.from ≤ t) × (t < r.to))
+        → cond (p && q) (Some (f s.body)) (look f ss t) ≡ Some b
         → (r : Span A) × In r (s ∷ ss) × (f r.body ≡ b) × (r.from ≤ t) × (t < r.to)
     go true x true y on h = (s, inl refl, cc, leb-true s.from t x, ltb-true t s.to y)
     go true x false y on h = more (on h)

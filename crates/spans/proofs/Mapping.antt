@@ -2,7 +2,7 @@
 use mathlib.Core.Path.{◌≡◌, refl, sym, ap, ap₂, ◌∙◌}
 use mathlib.Core.Bool.{Bool, true, false, cond, ◌&&◌}
 use mathlib.Core.List.{List, [], ◌∷◌, ◌++◌, map}
-use mathlib.Core.Option.{Option, none, some}
+use Rattle.std.specs.Prelude.{Option, None, Some}
 use Prim.Native.Nat.{ℕ, zero, suc, ◌-◌, min, max}
 use lib.Dec.{ltb, eqb}
 use Rattle.records.specs.Records.{Point, Rule}
@@ -60,8 +60,8 @@ module _ {A C : Type 0} (f : A → C) where
         points r (p ∷ ps) = cut_map r (raised v 0 d p.time) p.phase ps
 
         go : (o : Option Rule) → on_spans (of_rule v d o) ≡ of_rule (on_venue v) d o
-        go none = refl
-        go (some r) = points r r.points
+        go None = refl
+        go (Some r) = points r r.points
 
     pub walk_map : (hi n cursor : ℕ) → on_spans (walk v hi n cursor) ≡ walk (on_venue v) hi n cursor
     unfolding walk
@@ -117,8 +117,8 @@ module _ {A C : Type 0} (f : A → C) where
 -- ---- what is shown, by another function of the same bodies, and of exchanged bodies
 
 abbrev pub on_shown : {A C : Type 0} → (A → C) → Option A → Option C
-on_shown f none = none
-on_shown f (some x) = some (f x)
+on_shown f None = None
+on_shown f (Some x) = Some (f x)
 
 pub look_by : {A C : Type 0} (f : A → C) (ss : List (Span A)) (t : ℕ) → look f ss t ≡ on_shown f (look (λ (x : A). x) ss t)
 unfolding look
@@ -126,7 +126,7 @@ look_by f [] t = refl
 look_by f (s ∷ ss) t = go (holds s t) (look_by f ss t)
   where
     go : (q : Bool) → look f ss t ≡ on_shown f (look (λ x. x) ss t)
-        → cond q (some (f s.body)) (look f ss t) ≡ on_shown f (cond q (some s.body) (look (λ x. x) ss t))
+        → cond q (Some (f s.body)) (look f ss t) ≡ on_shown f (cond q (Some s.body) (look (λ x. x) ss t))
     go true e = refl
     go false e = e
 
@@ -134,7 +134,7 @@ module _ {A C D : Type 0} (f : A → C) (g : C → D) where
   pub look_map : (ss : List (Span A)) (t : ℕ) → look g (on_spans f ss) t ≡ look (λ (x : A). g (f x)) ss t
   unfolding look
   look_map [] t = refl
-  look_map (s ∷ ss) t = ap (cond (holds s t) (some (g (f s.body)))) (look_map ss t)
+  look_map (s ∷ ss) t = ap (cond (holds s t) (Some (g (f s.body)))) (look_map ss t)
 
 -- a point answer of exchanged bodies is that of the old ones, exchanged
 pub point_map : {A C D : Type 0} (f : A → C) (g : C → D) (v : Venue A) (c : Part) (t : ℕ)
@@ -153,8 +153,8 @@ point_map {A} {C} {D} f g v c t = go (inside c t)
         append_map f (spans v (d - 1)) (spans v d ++ spans v (suc d))
         ∙ ap₂ ◌++◌ (spans_map f v (d - 1)) (append_map f (spans v d) (spans v (suc d)) ∙ ap₂ ◌++◌ (spans_map f v d) (spans_map f v (suc d)))
 
-    go : (q : Bool) → cond q (look g (spans (on_venue f v) (d - 1) ++ (spans (on_venue f v) d ++ spans (on_venue f v) (suc d))) t) none
-        ≡ on_shown (λ (x : A). g (f x)) (cond q (look (λ (x : A). x) three t) none)
+    go : (q : Bool) → cond q (look g (spans (on_venue f v) (d - 1) ++ (spans (on_venue f v) d ++ spans (on_venue f v) (suc d))) t) None
+        ≡ on_shown (λ (x : A). g (f x)) (cond q (look (λ (x : A). x) three t) None)
     go true =
         ap (λ (ss : List (Span C)). look g ss t) (sym exchanged) ∙ look_map f g three t ∙ look_by (λ (x : A). g (f x)) three t
     go false = refl

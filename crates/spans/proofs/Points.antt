@@ -2,7 +2,7 @@
 use mathlib.Core.Path.{◌≡◌, ap, ◌∙◌}
 use mathlib.Core.Bool.{true, false}
 use mathlib.Core.List.{◌++◌}
-use mathlib.Core.Option.{none}
+use Rattle.std.specs.Prelude.{None}
 use Prim.Native.Nat.{ℕ, suc, ◌-◌, ◌≤◌, ◌<◌}
 use native.Mathlib.Omega.{arith}
 use Rattle.spans.specs.Spans.{look}
@@ -11,7 +11,7 @@ use Rattle.spans.proofs.Lists.{before, after, on_left, on_right}
 use Rattle.spans.proofs.Walking.{DateFits}
 
 module _ {A : Type 0} (v : Venue A) (c : Part) {C : Type 0} (f : A → C) (t : ℕ) where
-  pub point_out : inside c t ≡ false → point_at f v c t ≡ none
+  pub point_out : inside c t ≡ false → point_at f v c t ≡ None
   unfolding point_at
   point_out e = rw e
 

@@ -2,7 +2,7 @@
 -- coverage it shows a gap, inside what the walk shows. Assumes nothing.
 use mathlib.Core.Path.{◌≡◌, ap, ◌∙◌}
 use mathlib.Core.List.{List, [], ◌++◌}
-use mathlib.Core.Option.{none, some}
+use Rattle.std.specs.Prelude.{None, Some}
 use Prim.Native.Nat.{ℕ, ◌≤◌, ◌<◌, min, max}
 use native.Mathlib.Decide.{dec_le}
 use native.Mathlib.Omega.{arith}
@@ -43,7 +43,7 @@ module _ {A : Type 0} (v : Venue A) (gap : A) (c w : Part) (covers : c.start < c
           (last_within (min w.end lo) (omega arith) (omega arith)))
 
   module _ {C : Type 0} (f : A → C) (t : ℕ) (from : w.start ≤ t) (to : t < w.end) where
-    pub early : t < c.start → look f (unjoined v gap c w) t ≡ some (f gap)
+    pub early : t < c.start → look f (unjoined v gap c w) t ≡ Some (f gap)
     unfolding unjoined
     early h = keep_in f t w.start (min w.end c.start) gap (walked ++ last) from (omega arith)
 
@@ -53,15 +53,15 @@ module _ {A : Type 0} (v : Venue A) (gap : A) (c w : Part) (covers : c.start < c
         keep_late f t w.start (min w.end c.start) gap (walked ++ last) (omega arith)
         ∙ on_left f t walked last (keep_early f t (max w.start c.end) w.end gap [] (omega arith))
 
-    walked_none : c.end ≤ t → look f walked t ≡ none
+    walked_none : c.end ≤ t → look f walked t ≡ None
     unfolding look
     walked_none h = go (dec_le lo hi)
       where
-        go : Dec (lo ≤ hi) → look f walked t ≡ none
+        go : Dec (lo ≤ hi) → look f walked t ≡ None
         go (yes i) = after f t lo hi walked (omega arith) (walk_within v hi turns lo i)
         go (no i) = let z = walk_none v hi turns lo (omega arith) in rw z
 
-    pub late : c.end ≤ t → look f (unjoined v gap c w) t ≡ some (f gap)
+    pub late : c.end ≤ t → look f (unjoined v gap c w) t ≡ Some (f gap)
     unfolding unjoined
     late h =
         keep_late f t w.start (min w.end c.start) gap (walked ++ last) (omega arith)
@@ -89,6 +89,6 @@ module _ {A : Type 0} (B : Body A) (gap : A) (w : Part) (lacks : B.mark gap ≡ 
   unfolding blank
   blank_shape = keep_within w.start w.end w.end w.start w.end gap [] (omega arith) (omega arith) (omega arith) (omega arith)
 
-  pub blank_unknown : (t : ℕ) → w.start ≤ t → t < w.end → segment_at B (blank gap w) t ≡ some unknown
+  pub blank_unknown : (t : ℕ) → w.start ≤ t → t < w.end → segment_at B (blank gap w) t ≡ Some unknown
   unfolding blank
-  blank_unknown t a b = keep_in B.mark t w.start w.end gap [] a b ∙ ap some lacks
+  blank_unknown t a b = keep_in B.mark t w.start w.end gap [] a b ∙ ap Some lacks

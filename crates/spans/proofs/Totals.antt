@@ -2,7 +2,7 @@
 use mathlib.Core.Path.{◌≡◌, refl, ap, ◌∙◌}
 use mathlib.Core.Bool.{Bool, true, false, cond, not}
 use mathlib.Core.List.{List, [], ◌∷◌}
-use mathlib.Core.Option.{Option, none, some}
+use Rattle.std.specs.Prelude.{Option, None, Some}
 use Prim.Native.Nat.{ℕ, zero, suc, ◌+◌, ◌-◌, ◌≤◌, ◌<◌, min, max}
 use native.Mathlib.Decide.{dec_lt}
 use native.Mathlib.Omega.{arith}
@@ -62,8 +62,8 @@ module _ {A : Type 0} (B : Body A) (k : Mark → Bool) (a : ℕ) where
           let e : x ≡ look B.mark ss b = look_late B.mark b s ss (omega arith) in
           omega (arith, ap (λ (o : Option Mark). bit (shows k o)) e, flat q (omega arith))
       go (no u) (yes d) on =
-          let e : x ≡ some (B.mark s.body) = look_in B.mark b s ss (omega arith) d in
-          let f : look B.mark ss b ≡ none = before B.mark b s.to hi ss d w.2 in
+          let e : x ≡ Some (B.mark s.body) = look_in B.mark b s ss (omega arith) d in
+          let f : look B.mark ss b ≡ None = before B.mark b s.to hi ss d w.2 in
           omega (arith, ap (λ (o : Option Mark). bit (shows k o)) e, ap (λ (o : Option Mark). bit (shows k o)) f, up q (omega arith))
 
   pub total_count : (n lo hi : ℕ) (ss : List (Span A)) → Within lo hi ss → total B k a (a + n) ss ≡ count (λ t. shows k (look B.mark ss t)) a n

@@ -3,7 +3,7 @@
 use mathlib.Core.Path.{◌≡◌, refl, sym, ap, ◌∙◌}
 use mathlib.Core.Bool.{Bool, true, false, cond}
 use mathlib.Core.List.{List, [], ◌∷◌, ◌++◌}
-use mathlib.Core.Option.{Option, none, some}
+use Rattle.std.specs.Prelude.{Option, None, Some}
 use Prim.Native.Nat.{ℕ, zero, suc, ◌+◌, ◌≤◌, ◌<◌, min}
 use native.Mathlib.Decide.{dec_lt}
 use native.Mathlib.Omega.{arith}
@@ -27,8 +27,8 @@ module _ {A : Type 0} (v : Venue A) where
       (on.0, keep_within s.at e.at on.0 s.at e.at (v.body r s p e) (cut v r e q.phase qs) (omega arith) (omega arith) (omega arith) on.1)
 
   rule_within : (d : ℕ) (o : Option Rule) → (a : ℕ) × (b : ℕ) × Within a b (of_rule v d o)
-  rule_within d none = (0, 0, omega arith)
-  rule_within d (some r) = go r.points
+  rule_within d None = (0, 0, omega arith)
+  rule_within d (Some r) = go r.points
     where
       go : (ps : List Point) → (a : ℕ) × (b : ℕ) × Within a b (of_points v r d ps)
       go [] = (0, 0, omega arith)

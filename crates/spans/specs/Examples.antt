@@ -1,6 +1,6 @@
 -- The definitions computed. Days of 10 from 100 on, offset 0; dates 11 and 12 have a rule, 13 has none.
 use Rattle.std.specs.Prelude.{◌≡◌, refl, cond, List, [], ◌∷◌, ◌+◌, ◌*◌, ◌/◌, eqb, pos}
-use Rattle.std.proofs.Math.Option.{none, some}
+use Rattle.std.specs.Prelude.{None, Some}
 use Rattle.spans.specs.Spans
 use Rattle.spans.specs.Spans.{Mark, phase, unknown, Span, Body, look}
 use Rattle.spans.specs.Timeline
@@ -28,7 +28,7 @@ abbrev pub v : Venue Mark
 v = record {
   reads = λ t. t / 10;
   conv = λ d x. d * 10 + x;
-  governing = λ d. cond (eqb d 13) none (some r);
+  governing = λ d. cond (eqb d 13) None (Some r);
   body = λ q s p e. phase p q.evidence;
 }
 
@@ -49,7 +49,7 @@ tl_is : tl ≡ (
 unfolding timeline Timeline.unjoined Timeline.walk Timeline.spans Timeline.cut Spans.keep Spans.clip Spans.reach Spans.joined Spans.join_from
 tl_is = refl
 
-points_are : (point_at (λ (m : Mark). m) v cover 104 ≡ none) × (point_at (λ (m : Mark). m) v cover 116 ≡ some (phase 3 1))
-    × (point_at (λ (m : Mark). m) v cover 135 ≡ none)
+points_are : (point_at (λ (m : Mark). m) v cover 104 ≡ None) × (point_at (λ (m : Mark). m) v cover 116 ≡ Some (phase 3 1))
+    × (point_at (λ (m : Mark). m) v cover 135 ≡ None)
 unfolding point_at Timeline.spans Timeline.cut Spans.keep Spans.look
 points_are = (refl, refl, refl)

@@ -1,6 +1,6 @@
 -- Spans of instants, each half-open with a body, and lists of them. Assumes nothing.
 use Rattle.std.specs.Prelude.{◌≡◌, ◌⊎◌, Bool, true, false, cond, ◌&&◌, List, [], ◌∷◌, ℕ, ◌≤◌, ◌<◌, min, max, leb, ltb, eqb}
-use Rattle.std.proofs.Math.Option.{Option, none, some}
+use Rattle.std.specs.Prelude.{Option, None, Some}
 
 -- what a span shows: a phase with its evidence, or that nothing is known
 pub data Mark : Type 0 where
@@ -38,8 +38,8 @@ holds s t = leb s.from t && ltb t s.to
 
 -- what the first span that holds t shows
 unfoldable pub look : {A B : Type 0} → (A → B) → List (Span A) → ℕ → Option B
-look f [] t = none
-look f (s ∷ ss) t = cond (holds s t) (some (f s.body)) (look f ss t)
+look f [] t = None
+look f (s ∷ ss) t = cond (holds s t) (Some (f s.body)) (look f ss t)
 
 -- the spans are not empty, in order, do not overlap, and lie from lo to before hi
 abbrev pub Within : {A : Type 0} → ℕ → ℕ → List (Span A) → Type 0

@@ -1,6 +1,6 @@
 -- Point answers and timelines of a venue (document 01, phase rules 2 to 5). Instants, dates and times of day are numbers. Assumes nothing.
 use Rattle.std.specs.Prelude.{◌≡◌, Bool, cond, ◌&&◌, List, [], ◌∷◌, ◌++◌, ℕ, zero, suc, ◌-◌, min, max, leb, ltb}
-use Rattle.std.proofs.Math.Option.{Option, none, some}
+use Rattle.std.specs.Prelude.{Option, None, Some}
 use Rattle.records.specs.Records.{Point, Rule}
 use Rattle.spans.specs.Spans.{Span, Body, keep, clip, reach, look, joined}
 
@@ -46,8 +46,8 @@ of_points v r d [] = []
 of_points v r d (p ∷ ps) = cut v r (raised v 0 d p.time) p.phase ps
 
 abbrev pub of_rule : {A : Type 0} → Venue A → ℕ → Option Rule → List (Span A)
-of_rule v d none = []
-of_rule v d (some r) = of_points v r d r.points
+of_rule v d None = []
+of_rule v d (Some r) = of_points v r d r.points
 
 -- the spans of a date
 unfoldable pub spans : {A : Type 0} → Venue A → ℕ → List (Span A)
@@ -64,7 +64,7 @@ inside c t = leb c.start t && ltb t c.end
 unfoldable pub point_at : {A B : Type 0} → (A → B) → Venue A → Part → ℕ → Option B
 point_at f v c t =
     let d = v.reads t in
-    cond (inside c t) (look f (spans v (d - 1) ++ (spans v d ++ spans v (suc d))) t) none
+    cond (inside c t) (look f (spans v (d - 1) ++ (spans v d ++ spans v (suc d))) t) None
 
 -- the walk from the cursor to before hi, in at most n turns: the spans of the cursor's date from the cursor on, to the end of the
 -- last of them; where there is none, to the next midnight; it stops where that is not later

@@ -1,6 +1,6 @@
 -- Totals of a row: the instants of it that spans of a kind hold, by the spans and by counting instants. Assumes nothing.
 use Rattle.std.specs.Prelude.{Bool, true, false, cond, List, [], ◌∷◌, ℕ, zero, suc, ◌+◌, ◌-◌, min, max, eqb}
-use Rattle.std.proofs.Math.Option.{Option, none, some}
+use Rattle.std.specs.Prelude.{Option, None, Some}
 use Rattle.spans.specs.Spans.{Mark, phase, unknown, Span, Body}
 use Rattle.records.specs.Records.{Rule}
 
@@ -31,10 +31,10 @@ count P a (suc n) = bit (P (a + n)) + count P a n
 
 -- of what is shown at an instant
 abbrev pub shows : (Mark → Bool) → Option Mark → Bool
-shows k none = false
-shows k (some m) = k m
+shows k None = false
+shows k (Some m) = k m
 
 -- no rule governs
 abbrev pub free : Option Rule → Bool
-free none = true
-free (some r) = false
+free None = true
+free (Some r) = false

@@ -1,4 +1,5 @@
 -- The pass over a window's stretches: they are in order, and each piece of the walk is the next of them. Assumes nothing.
+use Rattle.std.specs.Prelude.{None, Some}
 use mathlib.Core.Path.{◌≡◌, refl, sym, ap, subst, ◌∙◌}
 use mathlib.Core.List.{List, [], ◌∷◌, ◌++◌, map}
 use Prim.Native.Nat.{ℕ, ◌+◌, ◌*◌, ◌≤◌, ◌<◌, min, max, ◌-◌}
@@ -6,25 +7,23 @@ use native.Mathlib.Omega.{arith}
 use native.Mathlib.Decide.{dec_le}
 use lib.ListN.{length}
 use Rattle.wire.specs.Fields.{Inside, Put}
-use Rattle.zone.specs.Zone.{Zone, zone_of}
-use Rattle.records.specs.Records.{rule_at}
+use Rattle.zone.specs.Zone.{Zone}
+use Rattle.zone.specs.Clocks.{zone_in}
 use Rattle.records.specs.Book.{last_phase}
 use Rattle.spans.specs.Spans.{Mark, phase, unknown, Span, Within}
-use Rattle.spans.specs.Timeline.{Venue, turns, walk}
+use Rattle.spans.specs.Timeline.{turns, walk}
 use Rattle.spans.proofs.Lists.{ordered}
 use Rattle.spans.proofs.Walking.{walk_within, walk_none}
-use Rattle.day.specs.Governing.{governing_rule}
-use Rattle.day.specs.Days.{Values, Held, venue_by, venue_of}
-use Rattle.day.specs.Meaning.{values_at}
-use Rattle.venue.specs.declared.opened.Header.{Header}
-use Rattle.walk.specs.Walking.{rule_of, point_of, after_piece, Begun, Comes}
-use Rattle.walk.specs.Looking.{IsNextTurn, TurnsOn}
+use Rattle.day.specs.Days.{Values, Held, venue_of}
+use Rattle.day.specs.Venues.{values_in, dates_in, book_in}
+use Rattle.venue.specs.declared.venue.Venue.{Venue}
+use Rattle.walk.specs.Walking.{rule_of, point_of, after_piece, rest, WalkStands, Begun, Comes}
+use Rattle.walk.specs.Looking.{IsNextPiece, DateSpent, TurnsOn}
 use Rattle.walk.specs.declared.Walk.{Walk}
 use Rattle.walk.specs.declared.Piece.{Piece}
-use Rattle.walk.specs.declared.NextTurn.{NextTurn}
-use Rattle.walk.specs.declared.NextTurn.TheVariants.{Done as NextTurn-as-Done, On}
 use Rattle.walk.proofs.Going as Going
-use Rattle.walk.proofs.Going.{left, come_left, turn_left, gone}
+use Rattle.walk.proofs.Going.{come_left, turn_left}
+use Rattle.walk.proofs.Looking.{piece_comes, piece_spent}
 use Rattle.answer.specs.Forms.{encode_all, row_size}
 use Rattle.tally_rows.specs.Rows.{rows_of}
 use Rattle.tally_rows.specs.OpenRows.{stretch_of, raw_forms, Slot, Ahead, Ordered, Standing, Coming, Counted, Ending, Ended, First, unknown_slot}
@@ -99,135 +98,128 @@ blank_first {start} {end} h fits f = first_standing (raw_blank start end) h (bla
 abbrev mark_of : List ℕ → Piece → Mark
 mark_of s q = phase (point_of s q q.point).phase (rule_of s q).evidence
 
-module _ (s : List ℕ) (first : ℕ) (ats offsets rules : List ℕ) (hi : ℕ) where
-  abbrev zone : Zone
-  zone = zone_of first ats offsets
+module _ (v : Venue) (lo hi : ℕ) where
+  abbrev pub zone : Zone
+  zone = zone_in v.clock
 
-  abbrev pub venue : Venue Held
-  venue = venue_by zone (governing_rule (map (rule_at s) rules))
+  abbrev pub stretches : List (Span Mark)
+  stretches = walked (dates_in v) lo hi
 
+  -- those that are left
   abbrev pub pieces : Walk → List (Span Mark)
-  pieces w = left held_mark s zone venue hi w
+  pieces w = Going.left held_mark (book_in v) zone (dates_in v) hi w
 
-  -- a piece comes first
+  abbrev pub to_go : Walk → ℕ
+  to_go w = Going.to_go (book_in v) zone (dates_in v) hi w
+
+  -- a piece comes first, or none of the date's does
   abbrev pub ComesFirst : Walk → Piece → List ℕ → Type 0
-  ComesFirst w q a = Comes s zone venue hi w q a
+  ComesFirst w q a = Comes (book_in v) zone (dates_in v) hi w q a
 
-  -- pieces are counted while the walk goes on
-  pub record Walked (start end : ℕ) (w : Walk) (now : List ℕ) (p : OpenRow) (row whole : List ℕ) (w' : Walk) (now' : List ℕ) (p' : OpenRow)
+  module _ {w : Walk} {a : List ℕ} (h : WalkStands (book_in v) zone w a) where
+    pub came : {q : Piece} → IsNextPiece (book_in v) a hi w (Some q) → ComesFirst w q a
+    came l = piece_comes v.clock.offset0 v.clock.ats.now v.clock.offsets.now v.clock.valid (book_in v) (dates_in v) hi w a h l
+
+    pub none_came : IsNextPiece (book_in v) a hi w None → DateSpent (book_in v) zone hi w
+    none_came l = piece_spent v.clock.offset0 v.clock.ats.now v.clock.offsets.now v.clock.valid (book_in v) (dates_in v) hi w a h l
+
+  -- the pieces that came are counted
+  pub record Walked (start end : ℕ) (now : List ℕ) (p : OpenRow) (row whole : List ℕ) (w : Walk) (now' : List ℕ) (p' : OpenRow)
       (row' whole' : List ℕ) : Type 0 where
-    pub on : (all last : List (Span Mark)) (room : List ℕ) → Standing all (pieces w ++ last) start end room now p row whole
-        → Standing all (pieces w' ++ last) start end room now' p' row' whole'
+    pub on : (all last : List (Span Mark)) (room : List ℕ) → Standing all (stretches ++ last) start end room now p row whole
+        → Standing all (pieces w ++ last) start end room now' p' row' whole'
     pub kept : length now' ≡ length now
 
-  module _ {start end : ℕ} where
-    walk_standing : {lo : ℕ} {w : Walk} {a : List ℕ} → Begun s zone venue (turns - 1) lo w a
-        → {all : List (Span Mark)} (last : List (Span Mark)) {room now : List ℕ} {p : OpenRow} {row whole : List ℕ}
-        → Standing all (walked s first ats offsets rules lo hi ++ last) start end room now p row whole
-        → Standing all (pieces w ++ last) start end room now p row whole
-    walk_standing b {all} last {room} {now} {p} {row} {whole} x =
-        subst (λ (l : List (Span Mark)). Standing all (l ++ last) start end room now p row whole) (sym (ap (map held_mark) (b.all hi))) x
+  module _ {start end : ℕ} {now : List ℕ} {p : OpenRow} {row whole : List ℕ} where
+    pub walked_none : {w : Walk} {a : List ℕ} → Begun (book_in v) zone (dates_in v) (turns - 1) lo w a
+        → Walked start end now p row whole w now p row whole
+    walked_none b =
+        record {
+          on = λ all last room x.
+              subst (λ (l : List (Span Mark)). Standing all (l ++ last) start end room now p row whole) (sym (ap (map held_mark) (b.all hi))) x;
+          kept = refl;
+        }
 
-    pub walked_none : {w : Walk} {now : List ℕ} {p : OpenRow} {row whole : List ℕ} → Walked start end w now p row whole w now p row whole
-    walked_none = record { on = λ all last room x. x; kept = refl }
-
-    module _ {w : Walk} {now : List ℕ} {p : OpenRow} {row whole : List ℕ} {w1 : Walk} {now1 : List ℕ} {p1 : OpenRow} {row1 whole1 : List ℕ}
-        (r : Walked start end w now p row whole w1 now1 p1 row1 whole1) where
+    module _ {w : Walk} {now1 : List ℕ} {p1 : OpenRow} {row1 whole1 : List ℕ} (r : Walked start end now p row whole w now1 p1 row1 whole1) where
       -- a piece comes
-      module _ {q : Piece} {a : List ℕ} (c : ComesFirst w1 q a) {j : ℕ} (e : (j ≡ (point_of s q q.point).phase) × (j ≤ last_phase)) where
-        is : Slot (mark_of s q) j
+      module _ {q : Piece} {a : List ℕ} (c : ComesFirst w q a) {j : ℕ} (e : (j ≡ (point_of (book_in v) q q.point).phase) × (j ≤ last_phase)) where
+        is : Slot (mark_of (book_in v) q) j
         is = record { is = e.0; low = omega (arith, e.0, e.1) }
 
-        piece_standing : (all last : List (Span Mark)) (room : List ℕ) → Standing all (pieces w ++ last) start end room now p row whole
-            → Standing all (stretch_of q.from.0 q.to.0 (mark_of s q) ∷ (pieces (after_piece q) ++ last)) start end room now1 p1 row1 whole1
+        piece_standing : (all last : List (Span Mark)) (room : List ℕ) → Standing all (stretches ++ last) start end room now p row whole
+            → Standing all (stretch_of q.from.0 q.to.0 (mark_of (book_in v) q) ∷ (pieces (after_piece q) ++ last)) start end room now1 p1 row1 whole1
         piece_standing all last room x =
             subst (λ (l : List (Span Mark)). Standing all (l ++ last) start end room now1 p1 row1 whole1) (come_left c held_mark) (r.on all last room x)
 
-        pub walked_coming : {lo : ℕ} {a' : List ℕ} → Begun s zone venue (turns - 1) lo w a'
-            → AllComing (walked s first ats offsets rules lo hi) now p start end row whole
-            → Coming now1 p1 start end q.from.0 q.to.0 j row1 whole1
-        walked_coming b x =
+        pub walked_coming : AllComing stretches now p start end row whole → Coming now1 p1 start end q.from.0 q.to.0 j row1 whole1
+        walked_coming x =
             record {
               all = x.all;
               left = pieces (after_piece q) ++ x.last;
               room = x.room;
-              mark = mark_of s q;
+              mark = mark_of (book_in v) q;
               is = is;
-              stands = piece_standing x.all x.last x.room (walk_standing b x.last x.stands);
+              stands = piece_standing x.all x.last x.room x.stands;
             }
 
         -- and is counted
-        module _ {w2 : Walk} (i : w2 ≡ after_piece q) where
-          pub walked_next : {now2 : List ℕ} {p2 : OpenRow} {row2 whole2 : List ℕ}
-              → Counted now1 p1 start end q.from.0 q.to.0 j row1 whole1 now2 p2 row2 whole2
-              → Walked start end w now p row whole w2 now2 p2 row2 whole2
-          walked_next {now2} {p2} {row2} {whole2} k =
-              record {
-                on = λ all last room x.
-                    subst (λ (y : Walk). Standing all (pieces y ++ last) start end room now2 p2 row2 whole2) (sym i)
-                    (k.on all (pieces (after_piece q) ++ last) room (mark_of s q) is (piece_standing all last room x));
-                kept = k.kept ∙ r.kept;
-              }
-
-      -- the walk turns, or is done and all its pieces are counted
-      module _ (t : NextTurn) (a : List ℕ) (l : IsNextTurn s zone venue hi w1 t a) where
-        module _ {w2 : Walk} (e : t ≡ On w2) where
-          pub turned : TurnsOn s zone venue hi w1 w2 a
-          turned = Going.turned s zone venue hi w1 t a l e
-
-          pub turn_walked : Walked start end w now p row whole w2 now1 p1 row1 whole1
-          turn_walked =
-              record {
-                on = λ all last room x.
-                    subst (λ (y : List (Span Mark)). Standing all (y ++ last) start end room now1 p1 row1 whole1) (turn_left turned held_mark) (r.on all last room x);
-                kept = r.kept;
-              }
-
-        pub walk_counted : t ≡ NextTurn-as-Done → {lo : ℕ} {a' : List ℕ} → Begun s zone venue (turns - 1) lo w a'
-            → AllCounted (walked s first ats offsets rules lo hi) now p start end row whole now1 p1 row1 whole1
-        walk_counted e b =
-            let done = ap (map held_mark) (gone s zone venue hi w1 t a l e) in
+        pub walked_next : {now2 : List ℕ} {p2 : OpenRow} {row2 whole2 : List ℕ}
+            → Counted now1 p1 start end q.from.0 q.to.0 j row1 whole1 now2 p2 row2 whole2
+            → Walked start end now p row whole (after_piece q) now2 p2 row2 whole2
+        walked_next k =
             record {
               on = λ all last room x.
-                  subst (λ (y : List (Span Mark)). Standing all (y ++ last) start end room now1 p1 row1 whole1) done (r.on all last room (walk_standing b last x));
-              kept = r.kept;
+                  k.on all (pieces (after_piece q) ++ last) room (mark_of (book_in v) q) is (piece_standing all last room x);
+              kept = k.kept ∙ r.kept;
             }
+
+      -- the walk turns
+      pub turn_walked : {w2 : Walk} {a : List ℕ} → TurnsOn (book_in v) zone (dates_in v) hi w w2 a
+          → Walked start end now p row whole w2 now1 p1 row1 whole1
+      turn_walked t =
+          record {
+            on = λ all last room x.
+                subst (λ (y : List (Span Mark)). Standing all (y ++ last) start end room now1 p1 row1 whole1) (turn_left t held_mark) (r.on all last room x);
+            kept = r.kept;
+          }
+
+      -- or is done and all its pieces are counted
+      pub walk_counted : rest (book_in v) zone (dates_in v) hi w ≡ [] → AllCounted stretches now p start end row whole now1 p1 row1 whole1
+      walk_counted e =
+          record {
+            on = λ all last room x.
+                subst (λ (y : List (Span Mark)). Standing all (y ++ last) start end room now1 p1 row1 whole1) (ap (map held_mark) e) (r.on all last room x);
+            kept = r.kept;
+          }
 
 -- ---- a venue: the first stretch, and what is then left
 
-module _ (s : List ℕ) (h : Header) (ats offsets rules events : List ℕ) where
-  abbrev values : Values
-  values = values_at s h ats offsets rules events
+module _ (v : Venue) (start end : ℕ) where
+  abbrev raw : List (Span Mark)
+  raw = raw_of (values_in v) start end
 
-  -- the stretches behind the first
-  abbrev behind_first : ℕ → ℕ → List (Span Mark)
-  behind_first start end =
-      map held_mark (walk (venue_of values) (min end h.end.0) turns (max start h.start.0)) ++ (stretch_of (max start h.end.0) end unknown ∷ [])
+  abbrev before : ℕ
+  before = min end v.coverage.start.0
 
-  -- the page is open, and it is known where the walk begins and ends
-  pub record Opens (start end : ℕ) (room : List ℕ) (p : OpenRow) (row whole : List ℕ) (before lo hi after : ℕ) : Type 0 where
-    pub covers : h.start.0 < h.end.0
-    pub order : start < end
-    pub fits : Inside 0 (row_size * (length (rows_of start end) + 1)) room
-    pub first : First start end p row whole
-    pub before_is : before ≡ min end h.start.0
-    pub lo_is : lo ≡ max start h.start.0
-    pub hi_is : hi ≡ min end h.end.0
-    pub after_is : after ≡ max start h.end.0
+  abbrev lo : ℕ
+  lo = max start v.coverage.start.0
 
-  module _ {start end : ℕ} {room : List ℕ} {p : OpenRow} {row whole : List ℕ} {before lo hi after : ℕ}
-      (o : Opens start end room p row whole before lo hi after) where
-    venue_first : Standing (raw_of values start end) (stretch_of start before unknown ∷ behind_first start end) start end room room p row whole
-    venue_first =
-        let fits = o.fits in
-        let e = o.before_is in
-        rw e (first_standing (raw_of values start end) o.order (raw_ordered values start end o.covers o.order) (omega (arith, fits)) o.first)
+  abbrev hi : ℕ
+  hi = min end v.coverage.end.0
+
+  abbrev last : List (Span Mark)
+  last = stretch_of (max start v.coverage.end.0) end unknown ∷ []
+
+  module _ {room : List ℕ} {p : OpenRow} {row whole : List ℕ} (order : start < end)
+      (fits : Inside 0 (row_size * (length (rows_of start end) + 1)) room) (first : First start end p row whole) where
+    venue_first : Standing raw raw start end room room p row whole
+    venue_first = first_standing raw order (raw_ordered (values_in v) start end v.covers order) (omega (arith, fits)) first
 
     pub venue_coming : Coming room p start end start before unknown_slot row whole
     venue_coming =
         record {
-          all = raw_of values start end;
-          left = behind_first start end;
+          all = raw;
+          left = walked (dates_in v) lo hi ++ last;
           room = room;
           mark = unknown;
           is = unknown_slot_law;
@@ -236,18 +228,14 @@ module _ (s : List ℕ) (h : Header) (ats offsets rules events : List ℕ) where
 
     -- then the walk comes
     module _ {now1 : List ℕ} {p1 : OpenRow} {row1 whole1 : List ℕ} (k : Counted room p start end start before unknown_slot row whole now1 p1 row1 whole1) where
-      walk_coming : Standing (raw_of values start end) (walked s h.offset0 ats offsets rules lo hi ++ (stretch_of after end unknown ∷ [])) start end room now1 p1 row1 whole1
-      walk_coming =
-          let l = o.lo_is in
-          let i = o.hi_is in
-          let e = o.after_is in
-          rw (l, i, e) (k.on (raw_of values start end) (behind_first start end) room unknown unknown_slot_law venue_first)
+      walk_coming : Standing raw (walked (dates_in v) lo hi ++ last) start end room now1 p1 row1 whole1
+      walk_coming = k.on raw (walked (dates_in v) lo hi ++ last) room unknown unknown_slot_law venue_first
 
-      pub venue_all_coming : AllComing (walked s h.offset0 ats offsets rules lo hi) now1 p1 start end row1 whole1
-      venue_all_coming = record { all = raw_of values start end; last = stretch_of after end unknown ∷ []; room = room; stands = walk_coming }
+      pub venue_all_coming : AllComing (walked (dates_in v) lo hi) now1 p1 start end row1 whole1
+      venue_all_coming = record { all = raw; last = last; room = room; stands = walk_coming }
 
       -- and the last stretch
       pub venue_walked : {now2 : List ℕ} {p2 : OpenRow} {row2 whole2 : List ℕ}
-          → AllCounted (walked s h.offset0 ats offsets rules lo hi) now1 p1 start end row1 whole1 now2 p2 row2 whole2
-          → Standing (raw_of values start end) (stretch_of after end unknown ∷ []) start end room now2 p2 row2 whole2
-      venue_walked w = w.on (raw_of values start end) (stretch_of after end unknown ∷ []) room walk_coming
+          → AllCounted (walked (dates_in v) lo hi) now1 p1 start end row1 whole1 now2 p2 row2 whole2
+          → Standing raw last start end room now2 p2 row2 whole2
+      venue_walked w = w.on raw last room walk_coming

@@ -2,7 +2,7 @@
 use mathlib.Core.Path.{◌≡◌, refl, sym, ap, ap₂, subst, ◌∙◌}
 use mathlib.Core.Bool.{Bool, true, false, cond}
 use mathlib.Core.List.{List, [], ◌∷◌, ◌++◌, map}
-use mathlib.Core.Option.{Option, none, some}
+use Rattle.std.specs.Prelude.{Option, None, Some}
 use Prim.Native.Nat.{ℕ, ◌+◌, ◌-◌, ◌≤◌, ◌<◌, min, max}
 use native.Mathlib.Omega.{arith}
 use native.Mathlib.Decide.{dec_le}
@@ -76,7 +76,7 @@ module _ {A : Type 0} (B : Body A) (merged : (a b : A) → B.mark (B.merge a b) 
 
 module _ (v : Values) where
   abbrev shows_held : Held → Option Shown
-  shows_held h = some (shown v.zone v.events h)
+  shows_held h = Some (shown v.zone v.events h)
 
   abbrev venue : Venue (Option Shown)
   venue = showing v.zone v.governing v.events
@@ -91,7 +91,7 @@ module _ (v : Values) where
     abbrev window : Part
     window = record { start = start; end = end }
 
-    raw_unjoined : (k : Mark → Bool) (x y : ℕ) → total marks k x y (raw_of v start end) ≡ total segments k x y (unjoined venue none v.coverage window)
+    raw_unjoined : (k : Mark → Bool) (x y : ℕ) → total marks k x y (raw_of v start end) ≡ total segments k x y (unjoined venue None v.coverage window)
     unfolding unjoined total
     raw_unjoined k x y =
         let lo = max start v.coverage.start in
@@ -99,11 +99,11 @@ module _ (v : Values) where
         let before = min end v.coverage.start in
         let after = max start v.coverage.end in
         let ws = walk (venue_of v) hi turns lo in
-        let rest : List (Span (Option Shown)) = walk venue hi turns lo ++ keep after end none [] in
+        let rest : List (Span (Option Shown)) = walk venue hi turns lo ++ keep after end None [] in
         let last : List (Span Mark) = stretch_of after end unknown ∷ [] in
-        let a = keep_total segments k x y start before none rest in
-        let b = append_total segments k x y (walk venue hi turns lo) (keep after end none []) in
-        let c = keep_total segments k x y after end none [] in
+        let a = keep_total segments k x y start before None rest in
+        let b = append_total segments k x y (walk venue hi turns lo) (keep after end None []) in
+        let c = keep_total segments k x y after end None [] in
         let d = append_total marks k x y (map held_mark ws) last in
         let e = held_total k x y ws ∙ ap (total segments k x y) (walk_map shows_held (venue_by v.zone v.governing) hi turns lo) in
         sums (cond (k unknown) (min y before - max x start) 0) (cond (k unknown) (min y end - max x after) 0) a b c d e
@@ -114,13 +114,13 @@ module _ (v : Values) where
     pub raw_total : (k : Mark → Bool) (x y : ℕ) → total marks k x y (raw_of v start end) ≡ total segments k x y (timeline_of v window)
     unfolding timeline
     raw_total k x y =
-        let ss = unjoined venue none v.coverage window in
-        raw_unjoined k x y ∙ sym (joined_total segments merges start end ss (unjoined_within venue none v.coverage window covers h) k x y)
+        let ss = unjoined venue None v.coverage window in
+        raw_unjoined k x y ∙ sym (joined_total segments merges start end ss (unjoined_within venue None v.coverage window covers h) k x y)
 
 pub blank_total : (start end : ℕ) (k : Mark → Bool) (x y : ℕ)
-    → total marks k x y (raw_blank start end) ≡ total segments k x y (blank none (record { start = start; end = end }))
+    → total marks k x y (raw_blank start end) ≡ total segments k x y (blank None (record { start = start; end = end }))
 unfolding blank total
-blank_total start end k x y = sym (keep_total segments k x y start end none [])
+blank_total start end k x y = sym (keep_total segments k x y start end None [])
 
 -- ---- equal totals, equal records
 

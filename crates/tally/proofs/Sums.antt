@@ -2,7 +2,7 @@
 use mathlib.Core.Path.{◌≡◌, refl, ap, subst, ◌∙◌}
 use mathlib.Core.Bool.{Bool, true, false, cond}
 use mathlib.Core.List.{List, [], ◌∷◌}
-use mathlib.Core.Option.{Option, none, some}
+use Rattle.std.specs.Prelude.{Option, None, Some}
 use Prim.Native.Nat.{ℕ, zero, suc, ◌+◌, ◌-◌, ◌*◌, ◌/◌, ◌≤◌, min, max}
 use native.Mathlib.Omega.{arith}
 use native.Mathlib.Decide.{dec_le}
@@ -160,8 +160,8 @@ module _ {A : Type 0} (B : Body A) (a b : ℕ) where
 -- ---- for every accepted book and every accepted window
 
 low_shown : (x : Option Shown) → Shows row_most x → Low (mark_of x)
-low_shown none g = tt
-low_shown (some x) g = omega (arith, g.phase)
+low_shown None g = tt
+low_shown (Some x) g = omega (arith, g.phase)
 
 abbrev Lows : List (Span (Option Shown)) → Type 0
 Lows ss = Bodies (λ (x : Option Shown). Low (mark_of x)) ss
@@ -189,8 +189,8 @@ module _ (s : List ℕ) (b : Bytes s) (m n : ℤ) (accepted : refusal base s ≡
   lows = go (coverage_of (records s)) refl
     where
       go : (o : Option Coverage) → coverage_of (records s) ≡ o → Lows (segments_by (records s) window o)
-      go none e = bodies_keep (λ (x : Option Shown). Low (mark_of x)) (instant_of m) (instant_of n) none [] tt tt
-      go (some c) e = low_all (timeline_of (values_of (records s) c) window) (segments_good s b accepted c e window)
+      go None e = bodies_keep (λ (x : Option Shown). Low (mark_of x)) (instant_of m) (instant_of n) None [] tt tt
+      go (Some c) e = low_all (timeline_of (values_of (records s) c) window) (segments_good s b accepted c e window)
 
   pub tally_sums : Sums tl (instant_of m) (instant_of n)
   tally_sums =

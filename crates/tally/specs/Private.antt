@@ -1,11 +1,8 @@
 -- What the private functions answer: a window's stretches as they are walked, before they are joined. Assumes nothing.
 use Rattle.std.specs.Prelude.{ℕ, min, max, ◌≡◌, List, [], ◌∷◌, ◌++◌, map, length}
-use Rattle.zone.specs.Zone.{zone_of}
-use Rattle.records.specs.Records.{rule_at}
 use Rattle.spans.specs.Spans.{Mark, phase, unknown, Span}
-use Rattle.spans.specs.Timeline.{turns, walk}
-use Rattle.day.specs.Governing.{governing_rule}
-use Rattle.day.specs.Days.{Values, Held, venue_by, venue_of}
+use Rattle.spans.specs.Timeline.{Venue, turns, walk}
+use Rattle.day.specs.Days.{Values, Held, venue_of}
 use Rattle.tally_rows.specs.OpenRows.{stretch_of, Standing}
 use Rattle.tally_rows.specs.declared.OpenRow.{OpenRow}
 
@@ -22,9 +19,9 @@ raw_of v start end =
     ∷ (map held_mark (walk (venue_of v) (min end v.coverage.end) turns (max start v.coverage.start))
     ++ (stretch_of (max start v.coverage.end) end unknown ∷ []))
 
--- the stretches of a walk, by places in the book
-abbrev pub walked : List ℕ → ℕ → List ℕ → List ℕ → List ℕ → ℕ → ℕ → List (Span Mark)
-walked s first ats offsets rules lo hi = map held_mark (walk (venue_by (zone_of first ats offsets) (governing_rule (map (rule_at s) rules))) hi turns lo)
+-- the stretches of a walk
+abbrev pub walked : Venue Held → ℕ → ℕ → List (Span Mark)
+walked v lo hi = map held_mark (walk v hi turns lo)
 
 -- several stretches come next, and are counted
 pub record AllComing (ss : List (Span Mark)) (now : List ℕ) (p : OpenRow) (start end : ℕ) (row whole : List ℕ) : Type 0 where

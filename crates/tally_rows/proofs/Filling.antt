@@ -2,7 +2,7 @@
 use mathlib.Core.Path.{◌≡◌, refl, sym, ap, subst, ◌∙◌}
 use mathlib.Core.Bool.{Bool, true, false, cond}
 use mathlib.Core.List.{List, [], ◌∷◌, ◌++◌, map, append_assoc, append-nil}
-use mathlib.Core.Option.{Option, some}
+use Rattle.std.specs.Prelude.{Option, Some}
 use Prim.Native.Nat.{ℕ, zero, suc, ◌+◌, ◌-◌, ◌*◌, ◌/◌, ◌≤◌, ◌<◌, ◌^◌}
 use native.Mathlib.Nat.{zero-add}
 use native.Mathlib.Omega.{arith}
@@ -15,7 +15,7 @@ use Rattle.zone.specs.Units.{day_ns}
 use Rattle.spans.specs.Spans.{Mark, unknown, Span}
 use Rattle.spans.specs.Timeline.{Part}
 use Rattle.spans.specs.Totals.{any_mark, total}
-use Rattle.answer.specs.Forms.{Form, day, tally, encode, encode_all, row_size, many_totals}
+use Rattle.answer.specs.Forms.{Form, day, tally, encode, encode_all, row_size}
 use Rattle.answer.specs.Meaning.{totals_of}
 use Rattle.answer.proofs.Readback.{encode_length}
 use Rattle.answer.proofs.Several.{one_form, encode_append, append_length}
@@ -162,8 +162,8 @@ module _ {all left : List (Span Mark)} {from to : ℕ} {m : Mark} {start end : �
     open_turns : (b < end) × (b < row_end end b)
     open_turns = (omega (arith, w.ordered.0), omega (arith, w.ordered.0))
 
-    open_room : (length row1 ≡ many_totals) × Inside at row_size now
-    open_room = (f.long, open_inside w)
+    open_room : Inside at row_size now
+    open_room = open_inside w
 
     open_next : {now1 row2 : List ℕ} {at1 b1 : ℕ} → Put now at (encode (day (totals_of a b row1))) row_size now1 at1 → b1 ≡ row_end end b → row2 ≡ fresh (b1 - b)
         → OpenAt all (stretch_of from to m ∷ left) start end room b b1 at1 row2 now1
@@ -191,14 +191,14 @@ module _ (s : Sheet) (end from to slot : ℕ) {n : ℕ} (e : n ≡ part_of s.a s
   counts : row ≡ shifted s.row slot (part_of s.a s.b from to)
   counts = f ∙ ap (shifted s.row slot) e
 
-  rolled_last : to ≤ s.b → rolled 1 end from to slot s ≡ some (record { a = s.a; b = s.b; at = s.at; row = row; bytes = s.bytes })
+  rolled_last : to ≤ s.b → rolled 1 end from to slot s ≡ Some (record { a = s.a; b = s.b; at = s.at; row = row; bytes = s.bytes })
   unfolding rolled
   rolled_last h = rw (le-leb to s.b h, ← counts) refl
 
   rolled_more : s.b < to → {bytes row1 : List ℕ} {at b : ℕ} → Put s.bytes s.at (encode (day (totals_of s.a s.b row))) row_size bytes at
       → b ≡ row_end end s.b → row1 ≡ fresh (b - s.b)
-      → {x : Sheet} (k : ℕ) → rolled k end from to slot (record { a = s.b; b = b; at = at; row = row1; bytes = bytes }) ≡ some x
-      → rolled (suc k) end from to slot s ≡ some x
+      → {x : Sheet} (k : ℕ) → rolled k end from to slot (record { a = s.b; b = b; at = at; row = row1; bytes = bytes }) ≡ Some x
+      → rolled (suc k) end from to slot s ≡ Some x
   unfolding rolled
   rolled_more h y i g k q = rw (lt-leb to s.b h, ← counts, ← y.same, ← y.behind, ← i, ← g) q
 
@@ -208,8 +208,8 @@ pub record Rolling (now : List ℕ) (a b at : ℕ) (row : List ℕ) (end from to
       → OpenAt all (stretch_of from to m ∷ left) start end room a b at row now
       → OpenAt all (stretch_of from to m ∷ left) start end room a' b' at' row' now'
   pub kept : length now' ≡ length now
-  pub rolls : (x : Sheet) (n : ℕ) → rolled n end from to slot (record { a = a'; b = b'; at = at'; row = row'; bytes = now' }) ≡ some x
-      → (k : ℕ) × (rolled k end from to slot (record { a = a; b = b; at = at; row = row; bytes = now }) ≡ some x)
+  pub rolls : (x : Sheet) (n : ℕ) → rolled n end from to slot (record { a = a'; b = b'; at = at'; row = row'; bytes = now' }) ≡ Some x
+      → (k : ℕ) × (rolled k end from to slot (record { a = a; b = b; at = at; row = row; bytes = now }) ≡ Some x)
 
 pub rolling_none : (now : List ℕ) (a b at : ℕ) (row : List ℕ) (end from to slot : ℕ) → Rolling now a b at row end from to slot now a b at row
 rolling_none now a b at row end from to slot = record { on = λ all left start room m is w. w; kept = refl; rolls = λ x n e. (n, e) }
@@ -249,7 +249,7 @@ module _ {now : List ℕ} {p : OpenRow} {start end from to slot : ℕ} {row whol
       coming_row h = shift_room open_at.small open_at.filled c.is e (omega (arith, open_at.edge))
 
       module _ {row2 : List ℕ} (f : row2 ≡ shifted row1 slot n) (h : b1 < to) where
-        pub coming_room : (length row2 ≡ many_totals) × Inside at1 row_size now1
+        pub coming_room : Inside at1 row_size now1
         coming_room = open_room open_at (shift_one open_at.small open_at.filled c.is e f) h
 
         pub coming_turn : (b1 < end) × (b1 < row_end end b1)
@@ -273,13 +273,13 @@ counted {start = start} {slot = slot} {whole = whole} r e f h i g =
     }
 
 -- and in one way: the rows that are closed, the open row, its totals, the closing totals and the bytes are determined
-rolled_once : (n m end from to slot : ℕ) (s x y : Sheet) → rolled n end from to slot s ≡ some x → rolled m end from to slot s ≡ some y → x ≡ y
+rolled_once : (n m end from to slot : ℕ) (s x y : Sheet) → rolled n end from to slot s ≡ Some x → rolled m end from to slot s ≡ Some y → x ≡ y
 unfolding rolled
 rolled_once zero m end from to slot s x y e f = let z : ◌≡◌ {A = ℕ} 0 1 = cc in absurd (omega arith)
 rolled_once (suc n) zero end from to slot s x y e f = let z : ◌≡◌ {A = ℕ} 0 1 = cc in absurd (omega arith)
 rolled_once (suc n) (suc m) end from to slot s x y e f = go (leb to s.b) _ _ _ (rolled_once n m end from to slot _ x y) e f
   where
-    go : (b : Bool) (o : Sheet) (p q : Option Sheet) → (p ≡ some x → q ≡ some y → x ≡ y) → cond b (some o) p ≡ some x → cond b (some o) q ≡ some y → x ≡ y
+    go : (b : Bool) (o : Sheet) (p q : Option Sheet) → (p ≡ Some x → q ≡ Some y → x ≡ y) → cond b (Some o) p ≡ Some x → cond b (Some o) q ≡ Some y → x ≡ y
     go true o p q h i j = cc
     go false o p q h i j = h i j
 
@@ -380,11 +380,11 @@ module _ {now : List ℕ} {p : OpenRow} {start end : ℕ} {row whole now1 : List
     abbrev last : Standing c.all [] start end c.room now1 p1 row1 whole1
     last = k.on c.all [] c.room unknown unknown_slot_law (one_more c.stands)
 
-    pub ending_day : (length row1 ≡ many_totals) × Inside p1.at row_size now1
-    ending_day = (last.current.filled.long, open_inside last.current)
+    pub ending_day : Inside p1.at row_size now1
+    ending_day = open_inside last.current
 
-    pub ending_tally : {v now2 : List ℕ} {at2 : ℕ} → Put now1 p1.at v row_size now2 at2 → (length whole1 ≡ many_totals) × Inside at2 row_size now2
-    ending_tally x = (last.closing.long, omega (arith, x.behind, x.kept, open_behind last.current))
+    pub ending_tally : {v now2 : List ℕ} {at2 : ℕ} → Put now1 p1.at v row_size now2 at2 → Inside at2 row_size now2
+    ending_tally x = omega (arith, x.behind, x.kept, open_behind last.current)
 
   pub ended : {now2 now3 : List ℕ} {at2 at3 : ℕ} → Put now1 p1.at (encode (day (totals_of p1.start.0 p1.end.0 row1))) row_size now2 at2
       → Put now2 at2 (encode (tally (totals_of start end whole1))) row_size now3 at3 → Ended now p start end row whole now3 at3

@@ -1,6 +1,6 @@
 -- The pages: rows that are written one after the other while the stretches of a window come. Assumes nothing.
 use Rattle.std.specs.Prelude.{ℕ, zero, suc, ◌+◌, ◌-◌, ◌*◌, ◌≤◌, ◌<◌, min, max, ◌≡◌, Bool, cond, List, [], ◌∷◌, ◌++◌, map, eqb, leb, length, get_or, set}
-use Rattle.std.proofs.Math.Option.{Option, none, some}
+use Rattle.std.specs.Prelude.{Option, None, Some}
 use Rattle.wire.specs.Fields.{wrote, Put}
 use Rattle.zone.specs.Units.{day_ns}
 use Rattle.spans.specs.Spans.{Mark, phase, unknown, Span, Body}
@@ -116,12 +116,12 @@ sheet_of p row now = record { a = p.start.0; b = p.end.0; at = p.at; row = row; 
 
 -- a stretch is counted in the open row; if the row ends before the stretch does it is written, and the stretch is counted in the next. In n rows at most
 unfoldable pub rolled : ℕ → ℕ → ℕ → ℕ → ℕ → Sheet → Option Sheet
-rolled zero end from to slot s = none
+rolled zero end from to slot s = None
 rolled (suc n) end from to slot s =
     let row = shifted s.row slot (part_of s.a s.b from to) in
     let b = row_end end s.b in
     let bytes = wrote s.bytes s.at (encode (day (totals_of s.a s.b row))) in
-    cond (leb to s.b) (some (record { a = s.a; b = s.b; at = s.at; row = row; bytes = s.bytes }))
+    cond (leb to s.b) (Some (record { a = s.a; b = s.b; at = s.at; row = row; bytes = s.bytes }))
     (rolled n end from to slot (record { a = s.b; b = b; at = s.at + row_size; row = fresh (b - s.b); bytes = bytes }))
 
 pub record Coming (now : List ℕ) (p : OpenRow) (start end from to slot : ℕ) (row whole : List ℕ) : Type 0 where
@@ -139,7 +139,7 @@ pub record Counted (now : List ℕ) (p : OpenRow) (start end from to slot : ℕ)
   pub reached : to ≤ p'.end.0
   pub kept : length now' ≡ length now
   pub fuel : ℕ
-  pub rolls : rolled fuel end from to slot (sheet_of p row now) ≡ some (sheet_of p' row' now')
+  pub rolls : rolled fuel end from to slot (sheet_of p row now) ≡ Some (sheet_of p' row' now')
   pub closes : whole' ≡ shifted whole slot (part_of start end from to)
 
 -- ---- the end

@@ -4,10 +4,9 @@ ghost use Rattle.std.specs.Prelude.{◌+◌, ◌-◌, ◌^◌, ◌≤◌, ◌<�
 ghost use Rattle.tally_rows.specs.OpenRows.{nowhere_slot, part_of, shifted, fresh, Coming, Counted, Ending, Ended, First};
 
 use crate::cuts::row_end;
-use crate::{OpenRow, UNKNOWN};
-use answer::{TOTALS, put_day, put_tally};
-use spans::{earlier, later};
-use zone::Instant;
+use crate::{OpenRow, Pages, UNKNOWN};
+use answer::{RowKind, TOTALS, put_row};
+use zone::{Instant, Interval};
 
 // Where what lies in no segment is counted.
 const NOWHERE: usize = 9;
@@ -16,17 +15,16 @@ const NOWHERE: usize = 9;
 fn part(a: u64, b: u64, from: u64, to: u64) -> u64
     ensures { result ≡ part_of a b from to }
 {
-    let lo = later(a, from);
-    let hi = earlier(b, to);
-    if lo < hi { hi - lo } else { 0 }
+    b.min(to).saturating_sub(a.max(from))
 }
 
 // A row as it begins.
-fn renew(row: &mut [u64; TOTALS], length: u64)
-    ensures { row.new ≡ fresh length }
+fn fresh(length: u64) -> [u64; TOTALS]
+    ensures { result ≡ fresh length }
 {
-    *row = [0; TOTALS];
+    let mut row = [0; TOTALS];
     row[NOWHERE] = length;
+    row
 }
 
 // So much of it lies in segments of one kind.
@@ -34,85 +32,84 @@ fn shift(row: &mut [u64; TOTALS], slot: usize, n: u64)
     requires { (slot < nowhere_slot) × (n ≤ get_or row.old nowhere_slot 0) × (get_or row.old slot 0 + n < 2 ^ 64) }
     ensures { row.new ≡ shifted row.old slot n }
 {
-    let more = row[slot] + n;
-    let less = row[NOWHERE] - n;
-    row[slot] = more;
-    row[NOWHERE] = less;
+    row[slot] += n;
+    row[NOWHERE] -= n;
 }
 
-// The first row.
-pub fn first_row(
-    start: Instant,
-    end: Instant,
-    row: &mut [u64; TOTALS],
-    whole: &mut [u64; TOTALS],
-) -> OpenRow
-    requires { start.0 < end.0 }
-    ensures { First start.0 end.0 result row.new whole.new }
-{
-    let next = row_end(end.0, start.0);
-    renew(row, next - start.0);
-    renew(whole, end.0 - start.0);
-    OpenRow {
-        start,
-        end: Instant(next),
-        at: 0,
-    }
-}
-
-// Counts a stretch in the closing totals and in the rows that it meets. A row that ends inside the stretch or before it is written and the next begins.
-pub fn stretch(
-    out: &mut [u8],
-    current: OpenRow,
-    start: Instant,
-    end: Instant,
-    from: Instant,
-    to: Instant,
-    slot: usize,
-    row: &mut [u64; TOTALS],
-    whole: &mut [u64; TOTALS],
-) -> OpenRow
-    requires { Coming out.old current start.0 end.0 from.0 to.0 slot row.old whole.old }
-    ensures { Counted out.old current start.0 end.0 from.0 to.0 slot row.old whole.old
-        out.new result row.new whole.new }
-{
-    shift(whole, slot, part(start.0, end.0, from.0, to.0));
-    let mut a = current.start;
-    let mut b = current.end;
-    let mut at = current.at;
-    'rows: loop {
-        shift(row, slot, part(a.0, b.0, from.0, to.0));
-        if to.0 <= b.0 {
-            break 'rows;
+impl Pages {
+    // No stretch has come yet, and the first row is open.
+    pub fn new(window: Interval) -> Pages
+        requires { window.start.0 < window.end.0 }
+        ensures { (result.window ≡ window) × First window.start.0 window.end.0 result.open result.row result.whole }
+    {
+        let start = window.start;
+        let next = row_end(window.end.0, start.0);
+        Pages {
+            window,
+            open: OpenRow {
+                start,
+                end: Instant(next),
+                at: 0,
+            },
+            row: fresh(next - start.0),
+            whole: fresh(window.end.0 - start.0),
         }
-        at = put_day(out, at, a, b, row);
-        let next = row_end(end.0, b.0);
-        renew(row, next - b.0);
-        a = b;
-        b = Instant(next);
     }
-    OpenRow {
-        start: a,
-        end: b,
-        at,
-    }
-}
 
-// Closes the rows that are left, and writes the closing total. Answers the place behind it.
-pub fn finish(
-    out: &mut [u8],
-    current: OpenRow,
-    start: Instant,
-    end: Instant,
-    row: &mut [u64; TOTALS],
-    whole: &mut [u64; TOTALS],
-) -> usize
-    requires { Ending out.old current start.0 end.0 row.old whole.old }
-    ensures { Ended out.old current start.0 end.0 row.old whole.old out.new result }
-{
-    let last = stretch(out, current, start, end, end, end, UNKNOWN, row, whole);
-    let a = last.start;
-    let b = last.end;
-    let at = put_day(out, last.at, a, b, row);
-    put_tally(out, at, start, end, whole)
+    // Counts a stretch in the closing totals and in the rows that it meets. A row that ends inside the stretch or before it is written and the
+    // next begins.
+    pub fn stretch(&mut self, out: &mut [u8], of: Interval, slot: usize)
+        requires { Coming out.old self.old.open self.old.window.start.0 self.old.window.end.0 of.start.0 of.end.0 slot self.old.row self.old.whole }
+        ensures { Counted out.old self.old.open self.old.window.start.0 self.old.window.end.0 of.start.0 of.end.0 slot self.old.row self.old.whole
+            out.new self.new.open self.new.row self.new.whole × (self.new.window ≡ self.old.window) }
+    {
+        let from = of.start.0;
+        let to = of.end.0;
+        let end = self.window.end.0;
+        shift(
+            &mut self.whole,
+            slot,
+            part(self.window.start.0, end, from, to),
+        );
+        let mut a = self.open.start;
+        let mut b = self.open.end;
+        let mut at = self.open.at;
+        'rows: loop {
+            shift(&mut self.row, slot, part(a.0, b.0, from, to));
+            if to <= b.0 {
+                break 'rows;
+            }
+            at = put_row(
+                out,
+                at,
+                RowKind::Day,
+                Interval { start: a, end: b },
+                &self.row,
+            );
+            let next = row_end(end, b.0);
+            self.row = fresh(next - b.0);
+            a = b;
+            b = Instant(next);
+        }
+        self.open = OpenRow {
+            start: a,
+            end: b,
+            at,
+        };
+    }
+
+    // Closes the rows that are left, and writes the closing total. Answers the place behind it.
+    pub fn finish(&mut self, out: &mut [u8]) -> usize
+        requires { Ending out.old self.old.open self.old.window.start.0 self.old.window.end.0 self.old.row self.old.whole }
+        ensures { Ended out.old self.old.open self.old.window.start.0 self.old.window.end.0 self.old.row self.old.whole out.new result }
+    {
+        let end = self.window.end;
+        self.stretch(out, Interval { start: end, end }, UNKNOWN);
+        let last = Interval {
+            start: self.open.start,
+            end: self.open.end,
+        };
+        let at = put_row(out, self.open.at, RowKind::Day, last, &self.row);
+        put_row(out, at, RowKind::Closing, self.window, &self.whole)
+    }
 }

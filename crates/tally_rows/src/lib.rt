@@ -4,9 +4,9 @@
 mod count;
 mod cuts;
 
-pub use count::{finish, first_row, stretch};
+use answer::TOTALS;
 pub use cuts::tally_size;
-use zone::Instant;
+use zone::{Instant, Interval};
 
 // Where what is unknown is counted.
 pub const UNKNOWN: usize = 8;
@@ -17,4 +17,13 @@ pub struct OpenRow {
     pub start: Instant,
     pub end: Instant,
     pub at: usize,
+}
+
+// A tally while the stretches of its window come: the window, the row that is open, that row's totals and the closing ones.
+#[derive(Drop)]
+pub struct Pages {
+    pub window: Interval,
+    pub open: OpenRow,
+    pub row: [u64; TOTALS],
+    pub whole: [u64; TOTALS],
 }

@@ -2,7 +2,7 @@
 use mathlib.Core.Path.{◌≡◌, refl, subst}
 use mathlib.Core.Bool.{Bool, true, false, cond, ◌&&◌}
 use mathlib.Core.List.{List, [], ◌∷◌, ◌++◌, map}
-use mathlib.Core.Option.{Option, none, some}
+use Rattle.std.specs.Prelude.{Option, None, Some}
 use Prim.Native.Nat.{ℕ, zero, suc, ◌+◌, ◌-◌, ◌*◌, ◌^◌, ◌≤◌, ◌<◌, min, max}
 use native.Mathlib.Omega.{arith}
 use lib.Dec.{ltb, leb, eqb}
@@ -120,9 +120,9 @@ widest_used : (a b : Uncertainty) → UsedUncertainty a → UsedUncertainty b �
 widest_used a b h i = go (width a) (width b)
   where
     go : (v w : Option ℕ) → UsedUncertainty (wider v w a b)
-    go none w = h
-    go (some x) none = i
-    go (some x) (some y) = either_way UsedUncertainty (leb y x) h i
+    go None w = h
+    go (Some x) None = i
+    go (Some x) (Some y) = either_way UsedUncertainty (leb y x) h i
 
 -- ---- a good rule and a good event, whose numbers fit
 
@@ -153,19 +153,19 @@ pub record Good (n : ℕ) (x : Shown) : Type 0 where
   pub few : length x.events ≤ n
 
 abbrev pub Shows : ℕ → Option Shown → Type 0
-Shows n none = Unit {0}
-Shows n (some x) = Good n x
+Shows n None = Unit {0}
+Shows n (Some x) = Good n x
 
 shows_more : (m n : ℕ) (a : Option Shown) → m ≤ n → Shows m a → Shows n a
-shows_more m n none h g = tt
-shows_more m n (some x) h g =
+shows_more m n None h g = tt
+shows_more m n (Some x) h g =
     let k = g.few in
     record { start = g.start; end = g.end; phase = g.phase; rule = g.rule; whole = g.whole; events = g.events; few = omega arith }
 
 shows_merged : (m n : ℕ) (a b : Option Shown) → Shows m a → Shows n b → Shows (m + n) (segments.merge a b)
-shows_merged m n none b g h = tt
-shows_merged m n (some a) none g h = shows_more m (m + n) (some a) (omega arith) g
-shows_merged m n (some a) (some b) g h =
+shows_merged m n None b g h = tt
+shows_merged m n (Some a) None g h = shows_more m (m + n) (Some a) (omega arith) g
+shows_merged m n (Some a) (Some b) g h =
     record {
       start = g.start;
       end = h.end;
@@ -264,7 +264,7 @@ sorted_used (o ∷ os) e = insert_used o (by_instant os) e.0 (sorted_used os e.1
 -- ---- a walk
 
 module _ (first : ℕ) (ats os : List ℕ) (ok : Valid first ats os)
-    (g : ℕ → Option Rule) (fits : (d : ℕ) (r : Rule) → g d ≡ some r → RuleFits r)
+    (g : ℕ → Option Rule) (fits : (d : ℕ) (r : Rule) → g d ≡ Some r → RuleFits r)
     (es : List Event) (all : Every EventFits es)
     (rare : (from to : ℕ) → to ≤ from + (day_ns + most_offset_ns + most_offset_ns) → length (found (zone_of first ats os) es from to) ≤ most_in_span) where
   abbrev zone : Zone
@@ -356,8 +356,8 @@ module _ (first : ℕ) (ats os : List ℕ) (ok : Valid first ats os)
           cut_good r f (raised v 0 d p.time) p.phase ps begins e.1 e.2
 
       go : (o : Option Rule) → g d ≡ o → Bodies (Shows most_in_span) (of_rule v d o)
-      go none e = tt
-      go (some r) e = points r (fits d r e) r.points (fits d r e).good.each
+      go None e = tt
+      go (Some r) e = points r (fits d r e) r.points (fits d r e).good.each
 
   walk_good : (hi n cursor : ℕ) → Bodies (Shows most_in_span) (walk v hi n cursor)
   unfolding walk
@@ -373,16 +373,16 @@ module _ (first : ℕ) (ats os : List ℕ) (ok : Valid first ats os)
       next : ℕ
       next = reach (min hi (midnight v (suc (v.reads cursor)))) here
 
-  keep_length : (a b : ℕ) (rest : List (Span (Option Shown))) → length (keep a b none rest) ≤ suc (length rest)
+  keep_length : (a b : ℕ) (rest : List (Span (Option Shown))) → length (keep a b None rest) ≤ suc (length rest)
   unfolding keep
   keep_length a b rest = go (ltb a b)
     where
-      go : (q : Bool) → length (cond q (record { from = a; to = b; body = none } ∷ rest) rest) ≤ suc (length rest)
+      go : (q : Bool) → length (cond q (record { from = a; to = b; body = None } ∷ rest) rest) ≤ suc (length rest)
       go true = omega arith
       go false = omega arith
 
   -- 3,660 turns of 16 spans, and two gaps, of 1,280 events
-  timeline_good : (c w : Part) → Bodies (Shows row_most) (timeline segments v none c w)
+  timeline_good : (c w : Part) → Bodies (Shows row_most) (timeline segments v None c w)
   unfolding timeline unjoined
   timeline_good c w =
       let lo = max w.start c.start in
@@ -390,12 +390,12 @@ module _ (first : ℕ) (ats os : List ℕ) (ok : Valid first ats os)
       let until = min w.end c.start in
       let since = max w.start c.end in
       let walked = walk v hi turns lo in
-      let behind : List (Span (Option Shown)) = keep since w.end none [] in
+      let behind : List (Span (Option Shown)) = keep since w.end None [] in
       let rest = walked ++ behind in
       let l = walk_length v (λ d r e. (fits d r e).good.few) hi turns lo in
-      let good = bodies_append (Shows most_in_span) walked behind (walk_good hi turns lo) (bodies_keep (Shows most_in_span) since w.end none [] tt tt) in
-      joined_bodies segments Shows shows_more shows_merged row_most (keep w.start until none rest)
-      (bodies_keep (Shows most_in_span) w.start until none rest tt good)
+      let good = bodies_append (Shows most_in_span) walked behind (walk_good hi turns lo) (bodies_keep (Shows most_in_span) since w.end None [] tt tt) in
+      joined_bodies segments Shows shows_more shows_merged row_most (keep w.start until None rest)
+      (bodies_keep (Shows most_in_span) w.start until None rest tt good)
       (omega (arith, l, keep_length w.start until rest, length-append walked behind, keep_length since w.end []))
 
 -- ---- an accepted book
@@ -434,7 +434,7 @@ module _ (s : List ℕ) (b : Bytes s) where
   events_fit (p ∷ ps) = (event_fits p, events_fit ps)
 
   -- every segment of its timelines
-  pub segments_good : refusal base s ≡ 0 → (c : Coverage) → coverage_of (records s) ≡ some c → (w : Part)
+  pub segments_good : refusal base s ≡ 0 → (c : Coverage) → coverage_of (records s) ≡ Some c → (w : Part)
       → Bodies (Shows row_most) (timeline_of (values_of (records s) c) w)
   segments_good e c q w =
       let rs = records s in

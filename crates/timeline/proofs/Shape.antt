@@ -3,7 +3,7 @@
 use mathlib.Core.Path.{◌≡◌, refl}
 use mathlib.Core.Bool.{Bool, true, false, cond}
 use mathlib.Core.List.{List, [], ◌∷◌}
-use mathlib.Core.Option.{Option, none, some}
+use Rattle.std.specs.Prelude.{Option, None, Some}
 use Prim.Native.Nat.{ℕ, ◌<◌}
 use lib.Dec.{ltb}
 use lib.IntN.{ℤ}
@@ -30,28 +30,28 @@ pub record Shape (s : List ℕ) (m n : ℤ) : Type 0 where
   pub apart : Apart segments (segments_of s m n)
 
 module _ (rs : List Record) (w : Part) (h : w.start < w.end) where
-  within_by : (o : Option Coverage) → ((c : Coverage) → o ≡ some c → instant_of c.start < instant_of c.end)
+  within_by : (o : Option Coverage) → ((c : Coverage) → o ≡ Some c → instant_of c.start < instant_of c.end)
       → Within w.start w.end (segments_by rs w o)
   unfolding timeline
-  within_by none k = blank_shape segments none w refl h
-  within_by (some c) k =
+  within_by None k = blank_shape segments None w refl h
+  within_by (Some c) k =
       let v = values_of rs c in
       let shows = showing v.zone v.governing v.events in
-      joined_within segments w.start w.end (unjoined shows none v.coverage w) (unjoined_within shows none v.coverage w (k c refl) h)
+      joined_within segments w.start w.end (unjoined shows None v.coverage w) (unjoined_within shows None v.coverage w (k c refl) h)
 
   apart_by : (o : Option Coverage) → Apart segments (segments_by rs w o)
   unfolding timeline blank keep
-  apart_by none = go (ltb w.start w.end)
+  apart_by None = go (ltb w.start w.end)
     where
       gap : Span (Option Shown)
-      gap = record { from = w.start; to = w.end; body = none }
+      gap = record { from = w.start; to = w.end; body = None }
 
       go : (b : Bool) → Apart segments (cond b (gap ∷ []) [])
       go true = (tt, tt)
       go false = tt
-  apart_by (some c) =
+  apart_by (Some c) =
       let v = values_of rs c in
-      joined_apart segments merges (unjoined (showing v.zone v.governing v.events) none v.coverage w)
+      joined_apart segments merges (unjoined (showing v.zone v.governing v.events) None v.coverage w)
 
 -- for every accepted book and every accepted window
 pub window_shape : (s : List ℕ) (m n : ℤ) → refusal base s ≡ 0 → window_refusal m n ≡ 0 → Shape s m n

@@ -1,6 +1,6 @@
 -- The window's answer in bytes. Assumes nothing.
 use Rattle.std.specs.Prelude.{ℕ, List, [], ◌∷◌, ◌++◌, ℤ}
-use Rattle.std.proofs.Math.Option.{Option, none, some}
+use Rattle.std.specs.Prelude.{Option, None, Some}
 use Rattle.zone.specs.Units.{instant_number, instant_of}
 use Rattle.records.specs.Records.{Coverage, Record}
 use Rattle.records.specs.Book.{records}
@@ -14,8 +14,8 @@ use Rattle.timeline.specs.Segments.{timeline_of}
 
 -- kind 17, or kind 16 with its 18s
 abbrev pub segment_forms : Option Cover → ℕ → ℕ → Option Shown → List Form
-segment_forms c from to none = unknown (record { start = instant_number from; end = instant_number to; coverage = c }) ∷ []
-segment_forms c from to (some x) = shown_forms from to x
+segment_forms c from to None = unknown (record { start = instant_number from; end = instant_number to; coverage = c }) ∷ []
+segment_forms c from to (Some x) = shown_forms from to x
 
 unfoldable pub timeline_forms : Option Cover → List (Span (Option Shown)) → List Form
 timeline_forms c [] = []
@@ -23,12 +23,12 @@ timeline_forms c (s ∷ ss) = segment_forms c s.from s.to s.body ++ timeline_for
 
 -- the segments of a window: of a venue without data, and of one with coverage
 abbrev pub segments_by : List Record → Part → Option Coverage → List (Span (Option Shown))
-segments_by rs w none = blank none w
-segments_by rs w (some c) = timeline_of (values_of rs c) w
+segments_by rs w None = blank None w
+segments_by rs w (Some c) = timeline_of (values_of rs c) w
 
 abbrev pub stated_cover : Option Coverage → Option Cover
-stated_cover none = none
-stated_cover (some c) = some (record { start = c.start; end = c.end })
+stated_cover None = None
+stated_cover (Some c) = Some (record { start = c.start; end = c.end })
 
 abbrev pub by_coverage : List Record → Part → Option Coverage → List Form
 by_coverage rs w o = timeline_forms (stated_cover o) (segments_by rs w o)

@@ -1,7 +1,7 @@
 -- What the window's answer writes is a good row. Assumes nothing.
 use mathlib.Core.Path.{◌≡◌, refl, sym, ap, ◌∙◌, subst}
 use mathlib.Core.List.{List, [], ◌∷◌, ◌++◌, map}
-use mathlib.Core.Option.{Option, none, some}
+use Rattle.std.specs.Prelude.{Option, None, Some}
 use mathlib.Core.Bool.{true}
 use Prim.Native.Nat.{ℕ, ◌+◌, ◌^◌, ◌≤◌, ◌<◌}
 use native.Mathlib.Omega.{arith}
@@ -143,8 +143,8 @@ module _ (c : Option Cover) (f : FitsCover c) (hi n : ℕ) (used : hi ≤ last_i
 
       go : (o : Option Shown) → Shows n o → Owing (instant (instant_number s.to)) 0 (timeline_forms c ss)
           → Owing least 0 (segment_forms c s.from s.to o ++ timeline_forms c ss)
-      go none k on = (good_gap s.from s.to least w.1 ends begins c f, on)
-      go (some x) k on = (
+      go None k on = (good_gap s.from s.to least w.1 ends begins c f, on)
+      go (Some x) k on = (
         good_phase s.from s.to least w.1 ends begins x k few,
         events_owed (instant (instant_number s.to)) x.events (timeline_forms c ss) k.events on,
       )
@@ -154,8 +154,8 @@ module _ (c : Option Cover) (f : FitsCover c) (hi n : ℕ) (used : hi ≤ last_i
 module _ (s : List ℕ) (z : refusal base s ≡ 0) where
   -- coverage that an answer states
   cover_fits : (o : Option Coverage) → coverage_of (records s) ≡ o → FitsCover (stated_cover o)
-  cover_fits none q = tt
-  cover_fits (some c) q =
+  cover_fits None q = tt
+  cover_fits (Some c) q =
       let k : Known s (header_of (records s) c) = record { accepted = z; covered = c; is = q; header = refl } in
       let g = good_coverage s z c q in
       let i : instant_of c.end ≤ last_instant = omega (arith, g.end_high) in
@@ -166,8 +166,8 @@ module _ (s : List ℕ) (z : refusal base s ≡ 0) where
 
   bodies_by : Bytes s → (w : Part) (o : Option Coverage) → coverage_of (records s) ≡ o → Bodies (Shows row_most) (segments_by (records s) w o)
   unfolding blank
-  bodies_by b w none q = bodies_keep (Shows row_most) w.start w.end none [] tt tt
-  bodies_by b w (some c) q = segments_good s b z c q w
+  bodies_by b w None q = bodies_keep (Shows row_most) w.start w.end None [] tt tt
+  bodies_by b w (Some c) q = segments_good s b z c q w
 
 instant_used : (z : ℤ) → inside instants z ≡ true → instant_of z ≤ last_instant
 instant_used (pos k) e = omega (arith, leb-true k instants_after (and_true (le_z instants.low (pos k)) (le_z (pos k) instants.high) e).1)

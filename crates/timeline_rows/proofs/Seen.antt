@@ -2,7 +2,7 @@
 use mathlib.Core.Path.{◌≡◌, refl, sym, ap, ap₂, ◌∙◌, subst}
 use mathlib.Core.Bool.{Bool, true, cond, ◌&&◌}
 use mathlib.Core.List.{List, [], ◌∷◌, ◌++◌, map}
-use mathlib.Core.Option.{Option, none, some}
+use Rattle.std.specs.Prelude.{Option, None, Some}
 use Prim.Native.Nat.{ℕ, ◌+◌, ◌≤◌, ◌<◌}
 use native.Mathlib.Decide.{dec_le, dec_lt}
 use native.Mathlib.Omega.{arith}
@@ -54,8 +54,8 @@ module _ (c : Option Cover) where
   no_events (s ∷ ss) = go s.body
     where
       go : (o : Option Shown) → events_of (segment_forms c s.from s.to o ++ timeline_forms c ss) ≡ []
-      go none = refl
-      go (some x) = refl
+      go None = refl
+      go (Some x) = refl
 
   forms_seen : (ss : List (Span (Option Shown))) → seen_of (timeline_forms c ss) ≡ map seen_span ss
   unfolding timeline_forms seen_of
@@ -67,9 +67,9 @@ module _ (c : Option Cover) where
 
       go : (o : Option Shown) → seen_of rest ≡ map seen_span ss
           → seen_of (segment_forms c s.from s.to o ++ rest) ≡ seen_between s.from s.to o ∷ map seen_span ss
-      go none on = ap (λ (l : List (Span Seen)). seen_between s.from s.to none ∷ l) on
-      go (some x) on =
-          ap₂ (λ (es : List Event) (l : List (Span Seen)). seen_as s.from s.to (mark_of (some x)) es ∷ l)
+      go None on = ap (λ (l : List (Span Seen)). seen_between s.from s.to None ∷ l) on
+      go (Some x) on =
+          ap₂ (λ (es : List Event) (l : List (Span Seen)). seen_as s.from s.to (mark_of (Some x)) es ∷ l)
           (behind_events rest x.events (no_events ss)) (behind_seen rest x.events ∙ on)
 
 -- ---- all instants are moved by one number
@@ -114,7 +114,7 @@ seen_holds s t =
 seen_look : (ss : List (Span (Option Shown))) (t : ℕ) → look (λ (x : Seen). x.mark) (map seen_span ss) (t + instant_zero) ≡ look mark_of ss t
 unfolding look
 seen_look [] t = refl
-seen_look (s ∷ ss) t = ap₂ (λ (q : Bool) (o : Option Mark). cond q (some (mark_of s.body)) o) (seen_holds s t) (seen_look ss t)
+seen_look (s ∷ ss) t = ap₂ (λ (q : Bool) (o : Option Mark). cond q (Some (mark_of s.body)) o) (seen_holds s t) (seen_look ss t)
 
 -- ---- for every accepted book and every accepted window
 

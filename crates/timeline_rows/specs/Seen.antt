@@ -1,6 +1,6 @@
 -- A window's segments as they are read from its answer. Assumes nothing.
 use Rattle.std.specs.Prelude.{ℕ, List, [], map}
-use Rattle.std.proofs.Math.Option.{Option, none, some}
+use Rattle.std.specs.Prelude.{Option, None, Some}
 use Rattle.zone.specs.Units.{instant_number}
 use Rattle.spans.specs.Spans.{Mark, Span, Body}
 use Rattle.events.specs.declared.Occurrence.{Occurrence}
@@ -13,8 +13,8 @@ abbrev pub seen_event : Occurrence → Event
 seen_event o = record { at = instant (instant_number o.boundary.at.0); code = o.code }
 
 abbrev pub seen_events : Option Shown → List Event
-seen_events none = []
-seen_events (some x) = map seen_event x.events
+seen_events None = []
+seen_events (Some x) = map seen_event x.events
 
 abbrev pub seen_as : ℕ → ℕ → Mark → List Event → Span Seen
 seen_as from to m es = record { from = instant (instant_number from); to = instant (instant_number to); body = record { mark = m; events = es } }

@@ -4,10 +4,10 @@
 
 ghost use Rattle.std.specs.Prelude.{◌≤◌};
 
-use cases::{BLOCK_BYTES, BLOCKS, ZERO, met, number, read_full, report, report_refusals};
+use cases::{count, each_block, met, number, report, report_refusals};
+use lend::Refusal;
 use std::fs::File;
-use std::io::Result;
-use wire::Placed;
+use std::io;
 
 // Kinds of records: a book's number, its length and its bytes; and the number and the length of a book of zeros.
 const CASE: u8 = 1;
@@ -24,36 +24,30 @@ const PLACES: usize = 12;
 // The longest book of zeros.
 const LONGEST: usize = 100_000;
 
-// A number of the list, none above 2^32.
-fn count(p: Placed) -> usize
-    ensures { result ≤ 4294967295 }
-{
-    let n = p.0;
-    if n < ZERO {
-        return 0;
-    }
-    if 0xffff_ffff < n - ZERO {
-        return 0;
-    }
-    (n - ZERO) as usize
-}
-
-fn place(expected: usize) -> u8 {
+fn place(expected: u32) -> u8 {
     if 9 < expected {
         return STRANGE;
     }
     expected as u8 + 1
 }
 
-fn judged(book: &[u8], expected: usize, counts: &mut [u64]) {
+// The number of what was judged, 0 where it passes.
+fn number_of(verdict: Result<(), Refusal>) -> u32 {
+    match verdict {
+        Ok(()) => 0,
+        Err(why) => u32::from(why),
+    }
+}
+
+fn judged(book: &[u8], expected: u32, counts: &mut [u64]) {
     met(
         counts,
         place(expected),
-        book::check(book) as usize == expected,
+        number_of(book::check(book)) == expected,
     );
 }
 
-fn judged_part(bytes: &[u8], length: usize, expected: usize, counts: &mut [u64]) {
+fn judged_part(bytes: &[u8], length: usize, expected: u32, counts: &mut [u64]) {
     if bytes.len() < length {
         met(counts, STRANGE, true);
         return;
@@ -61,7 +55,7 @@ fn judged_part(bytes: &[u8], length: usize, expected: usize, counts: &mut [u64])
     judged(&bytes[..length], expected, counts);
 }
 
-fn judged_zeros(length: usize, expected: usize, counts: &mut [u64]) {
+fn judged_zeros(length: usize, expected: u32, counts: &mut [u64]) {
     let zeros = [0u8; LONGEST];
     judged_part(&zeros, length, expected, counts);
 }
@@ -71,7 +65,7 @@ fn compare(list: &[u8], kind: u8, counts: &mut [u64]) -> usize
     ensures { (1 ≤ result) × (result ≤ 4294967312) }
 {
     let expected = count(number(list, 0, 0));
-    let length = count(number(list, 0, 1));
+    let length = count(number(list, 0, 1)) as usize;
     match kind {
         0 => 1,
         CASE => {
@@ -95,38 +89,22 @@ fn compare(list: &[u8], kind: u8, counts: &mut [u64]) -> usize
 
 fn all_records(list: &[u8], counts: &mut [u64]) {
     let mut at: usize = 0;
+    // A record says how long it is.
     while at < list.len() {
         at += compare(&list[at..], list[at], counts);
     }
 }
 
-// The next block of the file. It answers whether there was one.
-fn next_block(list: &mut File, counts: &mut [u64]) -> Result<bool> {
-    let mut block = [0u8; BLOCK_BYTES];
-    let n = read_full(list, &mut block)?;
-    all_records(&block[..n], counts);
-    Ok(0 < n)
-}
-
-fn all_blocks(list: &mut File, counts: &mut [u64]) -> Result<()> {
-    for _ in 0..BLOCKS {
-        if !next_block(list, counts)? {
-            break;
-        }
-    }
-    Ok(())
-}
-
-fn told(rt: &HostRuntime, counts: &[u64]) -> Result<()> {
-    report(rt, b"accepted ", counts, 1)?;
+fn told(rt: &HostRuntime, counts: &[u64]) -> io::Result<()> {
+    report(rt, "accepted", counts, 1)?;
     report_refusals(rt, counts, 11)?;
-    report(rt, b"differences ", counts, 0)?;
-    report(rt, b"bytes of the list not understood ", counts, STRANGE)
+    report(rt, "differences", counts, 0)?;
+    report(rt, "bytes of the list not understood", counts, STRANGE)
 }
 
-fn main(rt: HostRuntime) -> Result<()> {
+fn main(rt: HostRuntime) -> io::Result<()> {
     let mut list = File::open(&rt, "list")?;
     let mut counts = [0u64; PLACES];
-    all_blocks(&mut list, &mut counts)?;
+    each_block(&mut list, |block| all_records(block, &mut counts))?;
     told(&rt, &counts)
 }

@@ -4,8 +4,7 @@
 
 ghost use Rattle.std.specs.Prelude.{◌≤◌};
 
-use calendar::{Dated, Found, Numbered};
-use cases::{BLOCK_BYTES, BLOCKS, ZERO, met, number, read_full, report};
+use cases::{ZERO, count, each_block, met, number, report};
 use std::fs::File;
 use std::io::Result;
 use wire::Placed;
@@ -27,7 +26,7 @@ const PLACES: usize = 6;
 const LOW: u64 = ZERO - 0x8000_0000;
 
 // A number of the list as an i32, and as a year, month or day; 0 for one that is none.
-fn small(p: Placed) -> i32 {
+fn small(p: Placed<u64>) -> i32 {
     let n = p.0;
     if n < LOW {
         return 0;
@@ -35,86 +34,47 @@ fn small(p: Placed) -> i32 {
     if 0xffff_ffff < n - LOW {
         return 0;
     }
-    wire::unplace4(wire::Placed4((n - LOW) as u32))
+    i32::from(wire::Placed((n - LOW) as u32))
 }
 
-fn count(p: Placed) -> u32 {
-    let n = p.0;
-    if n < ZERO {
-        return 0;
-    }
-    if 0xffff_ffff < n - ZERO {
-        return 0;
-    }
-    (n - ZERO) as u32
-}
-
-fn is_number(r: Numbered, n: i32) -> bool {
-    match r {
-        Numbered::Number(m) => m == n,
-        Numbered::NoNumber => false,
-    }
-}
-
-fn has_no_number(r: Numbered) -> bool {
-    match r {
-        Numbered::Number(_) => false,
-        Numbered::NoNumber => true,
-    }
-}
-
-fn is_date(r: Dated, year: u32, month: u32, day: u32) -> bool {
-    match r {
-        Dated::Is(x) => (x.year == year) & (x.month == month) & (x.day == day),
-        Dated::NoDate => false,
-    }
-}
-
-fn has_no_date(r: Dated) -> bool {
-    match r {
-        Dated::Is(_) => false,
-        Dated::NoDate => true,
+// Whether a day number has this date.
+fn is_date(n: i32, year: u32, month: u32, day: u32) -> bool {
+    match calendar::date_of(n) {
+        Some(x) => (x.year == year) & (x.month == month) & (x.day == day),
+        None => false,
     }
 }
 
 // The weekday of a day number and the number of its Day again; 7 where there is no such Day.
 fn weekday_of(n: i32) -> u32 {
     match calendar::day_of(n) {
-        Found::On(d) => {
-            if is_number(calendar::number_of(d), n) {
-                calendar::weekday(d)
-            } else {
-                7
-            }
-        }
-        Found::NoDay => 7,
+        Some(d) if calendar::number_of(d) == Some(n) => calendar::weekday(d),
+        _ => 7,
     }
 }
 
 // Whether a date has a day number and a weekday, and the number that date.
 fn date_is(year: u32, month: u32, day: u32, n: i32, weekday: u32) -> bool {
-    let there = is_number(calendar::day_number(year, month, day), n);
-    let back = is_date(calendar::date_of(n), year, month, day);
+    let there = calendar::day_number(year, month, day) == Some(n);
+    let back = is_date(n, year, month, day);
     there & back & (weekday_of(n) == weekday)
 }
 
 // Every day of a month, and that the day after its last is none of it.
-fn month(year: u32, month: u32, first: Placed, days: u32, weekday: u32, counts: &mut [u64]) {
-    let mut k: u32 = 0;
-    while k < days {
-        let n = small(Placed(std::num::wrapping_add_u64(first.0, k as u64)));
+fn month(year: u32, month: u32, first: Placed<u64>, days: u32, weekday: u32, counts: &mut [u64]) {
+    for k in 0..days {
+        let n = small(Placed(first.0.wrapping_add(k as u64)));
         met(
             counts,
             MONTH,
             date_is(year, month, k + 1, n, (weekday % 7 + k % 7) % 7),
         );
-        k += 1;
     }
     if days < 32 {
         met(
             counts,
             NO_DATE,
-            has_no_number(calendar::day_number(year, month, days + 1)),
+            calendar::day_number(year, month, days + 1).is_none(),
         );
     }
 }
@@ -130,11 +90,11 @@ fn compare(list: &[u8], at: usize, kind: u8, counts: &mut [u64]) -> usize
     let e = number(list, at, 4);
     match kind {
         0 => 1,
-        1 => {
+        MONTH => {
             month(count(a), count(b), c, count(d), count(e), counts);
             41
         }
-        2 => {
+        DATE => {
             met(
                 counts,
                 DATE,
@@ -142,15 +102,15 @@ fn compare(list: &[u8], at: usize, kind: u8, counts: &mut [u64]) -> usize
             );
             41
         }
-        3 => {
-            met(counts, NO_NUMBER, has_no_date(calendar::date_of(small(a))));
+        NO_NUMBER => {
+            met(counts, NO_NUMBER, calendar::date_of(small(a)).is_none());
             9
         }
-        4 => {
+        NO_DATE => {
             met(
                 counts,
                 NO_DATE,
-                has_no_number(calendar::day_number(count(a), count(b), count(c))),
+                calendar::day_number(count(a), count(b), count(c)).is_none(),
             );
             25
         }
@@ -163,37 +123,21 @@ fn compare(list: &[u8], at: usize, kind: u8, counts: &mut [u64]) -> usize
 
 fn all_records(list: &[u8], counts: &mut [u64]) {
     let mut at: usize = 0;
+    // A record says how long it is.
     while at < list.len() {
         let kind = list[at];
         at += compare(list, at, kind, counts);
     }
 }
 
-// The next block of the file. It answers whether there was one.
-fn next_block(list: &mut File, counts: &mut [u64]) -> Result<bool> {
-    let mut block = [0u8; BLOCK_BYTES];
-    let n = read_full(list, &mut block)?;
-    all_records(&block[..n], counts);
-    Ok(0 < n)
-}
-
-fn all_blocks(list: &mut File, counts: &mut [u64]) -> Result<()> {
-    for _ in 0..BLOCKS {
-        if !next_block(list, counts)? {
-            break;
-        }
-    }
-    Ok(())
-}
-
 fn main(rt: HostRuntime) -> Result<()> {
     let mut list = File::open(&rt, "list")?;
     let mut counts = [0u64; PLACES];
-    all_blocks(&mut list, &mut counts)?;
-    report(&rt, b"days ", &counts, MONTH)?;
-    report(&rt, b"published weekdays ", &counts, DATE)?;
-    report(&rt, b"numbers of no date ", &counts, NO_NUMBER)?;
-    report(&rt, b"no dates ", &counts, NO_DATE)?;
-    report(&rt, b"differences ", &counts, 0)?;
-    report(&rt, b"bytes of the list not understood ", &counts, STRANGE)
+    each_block(&mut list, |block| all_records(block, &mut counts))?;
+    report(&rt, "days", &counts, MONTH)?;
+    report(&rt, "published weekdays", &counts, DATE)?;
+    report(&rt, "numbers of no date", &counts, NO_NUMBER)?;
+    report(&rt, "no dates", &counts, NO_DATE)?;
+    report(&rt, "differences", &counts, 0)?;
+    report(&rt, "bytes of the list not understood", &counts, STRANGE)
 }

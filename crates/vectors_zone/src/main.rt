@@ -3,14 +3,13 @@
 #![tactic(auto)]
 
 ghost use Rattle.std.specs.Prelude.{◌≤◌, ◌<◌, length};
-ghost use Rattle.zone.specs.Answers.{Valid};
 
 use calendar::Day;
-use cases::{BLOCK_BYTES, BLOCKS, met, number, read_full, report};
+use cases::{each_block, met, number, report};
 use std::fs::File;
 use std::io::Result;
 use wire::Placed;
-use zone::{Instant, Resolution};
+use zone::{Clock, Instant, Resolution};
 
 // Kinds of records: a zone begins, or is said again in a further block, and its transitions follow; then cases.
 const ZONE: u8 = 5;
@@ -48,7 +47,7 @@ const WALL_ZERO: u64 = 7_013_778_436_854_775_808;
 const WESTMOST: u64 = 0x8000_0000_0000_0000 - 57_600;
 
 // A transition's instant and offset, as the zone crate holds them; what is none of them is none to it either.
-fn instant(p: Placed) -> u64 {
+fn instant(p: Placed<u64>) -> u64 {
     let n = p.0;
     if n < SECOND_ZERO {
         return 0;
@@ -59,7 +58,7 @@ fn instant(p: Placed) -> u64 {
     (n - SECOND_ZERO) * SECOND_NS
 }
 
-fn offset(p: Placed) -> u32 {
+fn offset(p: Placed<u64>) -> u32 {
     let n = p.0;
     if n < WESTMOST {
         return u32::MAX;
@@ -77,7 +76,7 @@ struct Wall {
     time: u64,
 }
 
-fn shown_at(p: Placed) -> Wall {
+fn shown_at(p: Placed<u64>) -> Wall {
     let n = p.0;
     let x = if n < WALL_ZERO { 0 } else { n - WALL_ZERO };
     Wall {
@@ -86,54 +85,45 @@ fn shown_at(p: Placed) -> Wall {
     }
 }
 
-fn same(t: Instant, p: Placed) -> bool {
+fn same(t: Instant, p: Placed<u64>) -> bool {
     zone::instant_of(p).0 == t.0
 }
 
 // Whether an instant reads as said.
-fn reads(offset0: u32, ats: &[u64], offsets: &[u32], t: Placed, x: Placed) -> bool
-    requires { Valid offset0 ats.now offsets.now }
-{
-    let r = zone::reading_of(offset0, ats, offsets, zone::instant_of(t));
+fn reads(clock: &Clock<'_>, t: Placed<u64>, x: Placed<u64>) -> bool {
+    let r = clock.reading_of(zone::instant_of(t));
     let shown = shown_at(x);
-    let day = shown.day;
-    (zone::day_of_reading(r).0 == day.0) & (zone::time_of_reading(r) == shown.time)
+    (zone::day_of_reading(r).0 == shown.day.0) & (zone::time_of_reading(r) == shown.time)
 }
 
 // Whether an answer is of a kind with these instants, and takes the right one.
-fn is_answer(r: Resolution, kind: u8, a: Placed, b: Placed) -> bool {
+fn is_answer(r: Resolution, kind: u8, a: Placed<u64>, b: Placed<u64>) -> bool {
     let taken = zone::taken(r);
     match r {
         Resolution::Clear(t) => (kind == CLEAR) & same(t, a) & same(taken, a),
         Resolution::Fold(d) => {
-            let before = d.before;
-            let after = d.after;
-            (kind == FOLD) & same(before, a) & same(after, b) & same(taken, a)
+            (kind == FOLD) & same(d.before, a) & same(d.after, b) & same(taken, a)
         }
         Resolution::Gap(d) => {
-            let before = d.before;
-            let after = d.after;
-            (kind == 10)
-                & same(before, a)
-                & same(after, b)
+            (kind == GAP)
+                & same(d.before, a)
+                & same(d.after, b)
                 & same(taken, if a.0 < b.0 { b } else { a })
         }
     }
 }
 
 // Whether a case is answered as said.
-fn is_so(list: &[u8], at: usize, kind: u8, offset0: u32, ats: &[u64], offsets: &[u32]) -> bool
-    requires { Valid offset0 ats.now offsets.now }
-{
+fn is_so(list: &[u8], at: usize, kind: u8, clock: &Clock<'_>) -> bool {
     let a = number(list, at, 0);
     let b = number(list, at, 1);
     let c = number(list, at, 2);
     if kind == READING {
-        return reads(offset0, ats, offsets, a, b);
+        return reads(clock, a, b);
     }
     let shown = shown_at(a);
     let x = zone::reading_at(shown.day, shown.time);
-    let r = zone::to_utc(offset0, ats, offsets, x);
+    let r = clock.to_utc(x);
     is_answer(r, kind, b, c)
 }
 
@@ -145,15 +135,7 @@ fn size(kind: u8) -> usize
 }
 
 // Every case of one zone, from `from` on. It answers the place behind them.
-fn cases(
-    list: &[u8],
-    from: usize,
-    offset0: u32,
-    ats: &[u64],
-    offsets: &[u32],
-    counts: &mut [u64],
-) -> usize
-    requires { Valid offset0 ats.now offsets.now }
+fn cases(list: &[u8], from: usize, clock: &Clock<'_>, counts: &mut [u64]) -> usize
     ensures { from ≤ result }
 {
     let mut at = from;
@@ -162,7 +144,7 @@ fn cases(
         if (kind < READING) | (GAP < kind) {
             return at;
         }
-        met(counts, kind, is_so(list, at, kind, offset0, ats, offsets));
+        met(counts, kind, is_so(list, at, kind, clock));
         at += size(kind);
     }
     at
@@ -208,12 +190,16 @@ fn one_zone(list: &[u8], at: usize, kind: u8, counts: &mut [u64]) -> usize
     let mut ats = [0u64; MOST];
     let mut offsets = [0u32; MOST];
     let held = changes(list, at + 9, &mut ats, &mut offsets);
-    let n = held.count;
-    let held_ats = &ats[..n];
-    let held_offsets = &offsets[..n];
-    if zone::is_valid(offset0, held_ats, held_offsets) {
+    let ats = &ats[..held.count];
+    let offsets = &offsets[..held.count];
+    if zone::is_valid(offset0, ats, offsets) {
         met(counts, kind, true);
-        return cases(list, held.next, offset0, held_ats, held_offsets, counts);
+        let clock = Clock {
+            offset0,
+            ats,
+            offsets,
+        };
+        return cases(list, held.next, &clock, counts);
     }
     met(counts, kind, false);
     held.next
@@ -239,32 +225,15 @@ fn all_zones(list: &[u8], counts: &mut [u64]) {
     }
 }
 
-// The next block of the file. It answers whether there was one.
-fn next_block(list: &mut File, counts: &mut [u64]) -> Result<bool> {
-    let mut block = [0u8; BLOCK_BYTES];
-    let n = read_full(list, &mut block)?;
-    all_zones(&block[..n], counts);
-    Ok(0 < n)
-}
-
-fn all_blocks(list: &mut File, counts: &mut [u64]) -> Result<()> {
-    for _ in 0..BLOCKS {
-        if !next_block(list, counts)? {
-            break;
-        }
-    }
-    Ok(())
-}
-
 fn main(rt: HostRuntime) -> Result<()> {
     let mut list = File::open(&rt, "list")?;
     let mut counts = [0u64; PLACES];
-    all_blocks(&mut list, &mut counts)?;
-    report(&rt, b"zones ", &counts, ZONE)?;
-    report(&rt, b"readings of instants ", &counts, READING)?;
-    report(&rt, b"clear readings ", &counts, CLEAR)?;
-    report(&rt, b"folds ", &counts, FOLD)?;
-    report(&rt, b"gaps ", &counts, GAP)?;
-    report(&rt, b"differences ", &counts, 0)?;
-    report(&rt, b"bytes of the list not understood ", &counts, STRANGE)
+    each_block(&mut list, |block| all_zones(block, &mut counts))?;
+    report(&rt, "zones", &counts, ZONE)?;
+    report(&rt, "readings of instants", &counts, READING)?;
+    report(&rt, "clear readings", &counts, CLEAR)?;
+    report(&rt, "folds", &counts, FOLD)?;
+    report(&rt, "gaps", &counts, GAP)?;
+    report(&rt, "differences", &counts, 0)?;
+    report(&rt, "bytes of the list not understood", &counts, STRANGE)
 }

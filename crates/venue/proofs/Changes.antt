@@ -2,7 +2,7 @@
 use mathlib.Core.Path.{◌≡◌, sym, ap, ap₂, ◌∙◌}
 use mathlib.Core.Bool.{true, false, not, ◌&&◌, ◌||◌}
 use mathlib.Core.List.{List, [], ◌∷◌}
-use mathlib.Core.Option.{Option, none, some}
+use Rattle.std.specs.Prelude.{Option, None, Some}
 use Prim.Native.Nat.{ℕ, suc, ◌+◌, ◌-◌, ◌*◌, ◌≤◌, ◌<◌}
 use native.Mathlib.Omega.{arith}
 use borrow.Author.Tests.{ltb-false, leb-true, leb-false, not-false}
@@ -114,12 +114,12 @@ Chain earlier (r ∷ rs) = Passed base earlier r × Chain (r ∷ earlier) rs
 
 -- of the last clock change before, if there is one: it is in its range, and the next comes far enough behind it
 abbrev Last : Option ℤ → Type 0
-Last none = Unit {0}
-Last (some z) = Second z
+Last None = Unit {0}
+Last (Some z) = Second z
 
 abbrev Behind : Option ℤ → List ℕ → Type 0
-Behind none ats = Unit {0}
-Behind (some z) ats = After (seconds_instant z) ats
+Behind None ats = Unit {0}
+Behind (Some z) ats = After (seconds_instant z) ats
 
 record Changes (o : Option ℤ) (ats changed : List ℕ) : Type 0 where
   offsets_in : Each 0 (2 * most_offset) changed
@@ -128,15 +128,15 @@ record Changes (o : Option ℤ) (ats changed : List ℕ) : Type 0 where
   behind : Behind o ats
 
 no_changes : (o : Option ℤ) → Changes o [] []
-no_changes none = record { offsets_in = tt; ats_in = tt; spaced = tt; behind = tt }
-no_changes (some z) = record { offsets_in = tt; ats_in = tt; spaced = tt; behind = tt }
+no_changes None = record { offsets_in = tt; ats_in = tt; spaced = tt; behind = tt }
+no_changes (Some z) = record { offsets_in = tt; ats_in = tt; spaced = tt; behind = tt }
 
 second_value : {z : ℤ} (m : Second z) → seconds_instant z ≡ (m.place - (half w64 - zero_day * 86400)) * second_ns
 second_value m = ap (λ (i : ℕ). i * second_ns) (counted m (zero_day * 86400) (omega arith) (omega arith))
 
 far : (o : Option ℤ) {z : ℤ} (ats : List ℕ) → Last o → Second z → closer o z ≡ false → Behind o (seconds_instant z ∷ ats)
-far none ats l m e = tt
-far (some y) ats l m e =
+far None ats l m e = tt
+far (Some y) ats l m e =
     let a = second_value l in
     let b = second_value m in
     let d = apart l m spacing e in
@@ -168,10 +168,10 @@ changes earlier (transition t ∷ rs) c l =
 
 -- ---- of a whole book
 
-no_coverage : {c : Coverage} → none ≡ some c → ⊥
+no_coverage : {c : Coverage} → None ≡ Some c → ⊥
 no_coverage e = let z : ◌≡◌ {A = ℕ} 0 1 = cc in omega arith
 
-first_header : (rs : List Record) (c : Coverage) → Chain [] rs → coverage_of rs ≡ some c → Header c × (covers_nothing (coverage c) ≡ false)
+first_header : (rs : List Record) (c : Coverage) → Chain [] rs → coverage_of rs ≡ Some c → Header c × (covers_nothing (coverage c) ≡ false)
 first_header [] c p e = absurd (no_coverage e)
 first_header (coverage v ∷ rs) c p e =
     let i : v ≡ c = cc in
@@ -180,7 +180,7 @@ first_header (transition v ∷ rs) c p e = absurd (no_coverage e)
 first_header (rule v ∷ rs) c p e = absurd (no_coverage e)
 first_header (event v ∷ rs) c p e = absurd (no_coverage e)
 
-module _ (rs : List Record) (chain : Chain [] rs) (c : Coverage) (e : coverage_of rs ≡ some c) where
+module _ (rs : List Record) (chain : Chain [] rs) (c : Coverage) (e : coverage_of rs ≡ Some c) where
   pub covers_good : GoodCoverage c
   covers_good = let h = first_header rs c chain e in covers c h.0 h.1
 

@@ -1,8 +1,8 @@
--- What opening answers: refused, empty, or a venue with its header. Assumes nothing.
+-- What opening answers: a refusal, no data, or a header. Assumes nothing.
 use mathlib.Core.Path.{◌≡◌, refl, sym, ap, ◌∙◌}
 use mathlib.Core.Bool.{false, not, ◌||◌}
 use mathlib.Core.List.{List, [], ◌∷◌}
-use mathlib.Core.Option.{some}
+use Rattle.std.specs.Prelude.{Option, None, Some, Result, Ok, Err}
 use Prim.Native.Nat.{ℕ, zero, suc, ◌+◌, ◌-◌, ◌≤◌, ◌<◌}
 use native.Mathlib.Omega.{arith}
 use borrow.Author.Tests.{eq-eqb, ne_eqb, eqb-true, not-false}
@@ -21,7 +21,7 @@ use Rattle.records.specs.Frame.{Framed}
 use Rattle.records.proofs.Tests.{or_false, inside_range}
 use Rattle.records.proofs.Frames.{is_one, room1}
 use Rattle.venue.specs.Opening.{coverage_of, transitions_of, ats_of, offsets_of, places_from, places, opened, stored}
-use Rattle.venue.specs.declared.opened.Opened.TheVariants.{Refused, Empty, Venue}
+use Rattle.venue.specs.declared.opened.Header.{Header}
 use Rattle.venue.specs.declared.opened.Counts.{Counts}
 use Rattle.venue.specs.Private.{counts_of}
 use Rattle.venue.proofs.Passing.{Ahead, ahead_start, ahead_next, no_turns, one_record, kind_here}
@@ -29,7 +29,7 @@ use Rattle.venue.proofs.Passing.{Ahead, ahead_start, ahead_next, no_turns, one_r
 -- ---- refused
 
 module _ (s : List ℕ) (e : refusal base s ≡ 0 → ⊥) where
-  pub refused_answer : (n : ℕ) → n ≡ refusal base s → Refused n ≡ opened s
+  pub refused_answer : (n : ℕ) → n ≡ refusal base s → ◌≡◌ {A = Result (Option Header) ℕ} (Err n) (opened s)
   unfolding opened
   refused_answer n q = rw q (simp (ne_eqb (refusal base s) 0 e))
 
@@ -53,7 +53,7 @@ module _ (s : List ℕ) (e : refusal base s ≡ 0) where
     unfolding records records_from
     no_records = rw z
 
-    pub empty_answer : Empty ≡ opened s
+    pub empty_answer : ◌≡◌ {A = Result (Option Header) ℕ} (Ok None) (opened s)
     unfolding opened
     empty_answer = rw (no_records, e)
 
@@ -77,11 +77,11 @@ pub record Head (s : List ℕ) : Type 0 where
   pub start_low : half w64 - instants_before ≤ turned w64 (number coverage_start s 0)
   pub end_low : half w64 - instants_before ≤ turned w64 (number coverage_end s 0)
   pub offset_low : half w32 - most_offset ≤ turned w32 (number coverage_offset s 0)
-  pub is : coverage_of (records s) ≡ some (coverage_at s 0)
+  pub is : coverage_of (records s) ≡ Some (coverage_at s 0)
 
 module _ (s : List ℕ) (e : refusal base s ≡ 0) (ne : length s ≡ 0 → ⊥) where
   first_by : (turns : ℕ) → Ahead s 0 turns []
-      → Framed s 0 × (kind_at s 0 ≡ coverage_kind) × (bad_fields base (record_at s 0) ≡ false) × (coverage_of (records_from s turns 0) ≡ some (coverage_at s 0))
+      → Framed s 0 × (kind_at s 0 ≡ coverage_kind) × (bad_fields base (record_at s 0) ≡ false) × (coverage_of (records_from s turns 0) ≡ Some (coverage_at s 0))
   first_by zero a = absurd (no_turns a (omega arith))
   first_by (suc g) a =
       let h : 0 < length s = omega arith in
@@ -119,16 +119,17 @@ module _ (s : List ℕ) (e : refusal base s ≡ 0) (ne : length s ≡ 0 → ⊥)
       → b ≡ instant_of (meant w64 q)
       → o ≡ turned w32 (number coverage_offset s 0)
       → n ≡ counts_of (records s)
-      → Venue
+      → ◌≡◌ {A = Result (Option Header) ℕ}
+      (Ok
+      (Some
       (record {
-        start = record { 0 = a };
-        end = record { 0 = b };
+        coverage = record { start = record { 0 = a }; end = record { 0 = b } };
         offset0 = o - (half w32 - most_offset);
         transitions = n.transitions;
         rules = n.rules;
         events = n.events;
-      })
-      ≡ opened s
+      })))
+      (opened s)
   unfolding opened
   venue_answer qp qa qq qb qo qn =
       let i = qa ∙ ap (λ (x : ℕ). instant_of (meant w64 x)) qp in

@@ -2,7 +2,7 @@
 use mathlib.Core.Path.{◌≡◌, refl, sym, ap, ◌∙◌}
 use mathlib.Core.Bool.{Bool, true, false, cond}
 use mathlib.Core.List.{List}
-use mathlib.Core.Option.{Option, none, some}
+use Rattle.std.specs.Prelude.{Option, None, Some, Result, Ok, Err}
 use Prim.Native.Nat.{ℕ, ◌+◌, ◌-◌, ◌*◌, ◌≤◌}
 use native.Mathlib.Omega.{arith}
 use borrow.Author.Tests.{eqb-true, eq-eqb}
@@ -21,70 +21,74 @@ use Rattle.records.specs.Records.{Coverage, coverage_at}
 use Rattle.records.specs.Book.{many, refusal, records}
 use Rattle.venue.specs.Opening.{coverage_of, header_of, venue_of, opened, rule_places, event_places, number_opened}
 use Rattle.venue.specs.declared.opened.Header.{Header}
-use Rattle.venue.specs.declared.opened.Opened.{Opened}
-use Rattle.venue.specs.declared.opened.Opened.TheVariants.{Refused, Empty, Venue}
 use Rattle.venue.proofs.Headers.{no_records, Head, head}
 use Rattle.venue.proofs.Laws.{rules_count, events_count}
 
 -- ---- the cases of opening
 
-abbrev case_of : Opened → ℕ
-case_of (Refused n) = 0
-case_of Empty = 1
-case_of (Venue h) = 2
+abbrev Opened : Type 0
+Opened = Result (Option Header) ℕ
 
 -- a book that is refused
-pub opened_refused : (s : List ℕ) (n : ℕ) → Refused n ≡ opened s → (n ≡ refusal base s) × (refusal base s ≡ 0 → ⊥)
+pub opened_refused : (s : List ℕ) (n : ℕ) → ◌≡◌ {A = Opened} (Err n) (opened s) → (n ≡ refusal base s) × (refusal base s ≡ 0 → ⊥)
 unfolding opened
 opened_refused s n e = go (eqb (refusal base s) 0) refl e
   where
-    other : (o : Option Coverage) → Refused n ≡ venue_of (records s) o → (n ≡ refusal base s) × (refusal base s ≡ 0 → ⊥)
-    other none q = absurd (let y = ap case_of q in omega arith)
-    other (some c) q = absurd (let y = ap case_of q in omega arith)
+    other : (o : Option Coverage) → ◌≡◌ {A = Opened} (Err n) (Ok (venue_of (records s) o)) → (n ≡ refusal base s) × (refusal base s ≡ 0 → ⊥)
+    other o q = absurd (cc)
 
     go : (b : Bool) → eqb (refusal base s) 0 ≡ b
-        → Refused n ≡ cond b (venue_of (records s) (coverage_of (records s))) (Refused (refusal base s))
+        → ◌≡◌ {A = Opened} (Err n) (cond b (Ok (venue_of (records s) (coverage_of (records s)))) (Err (refusal base s)))
         → (n ≡ refusal base s) × (refusal base s ≡ 0 → ⊥)
     go true i q = other (coverage_of (records s)) q
     go false i q =
         (ap (λ (o : Opened). number_opened o 0) q, λ z. let y : ◌≡◌ {A = Bool} true false = sym (eq-eqb (refusal base s) 0 z) ∙ i in let x : ◌≡◌ {A = ℕ} 0 1 = cc in omega arith)
 
 -- a venue without data
-pub opened_empty : (s : List ℕ) → Empty ≡ opened s → (refusal base s ≡ 0) × (coverage_of (records s) ≡ none)
+pub opened_empty : (s : List ℕ) → ◌≡◌ {A = Opened} (Ok None) (opened s) → (refusal base s ≡ 0) × (coverage_of (records s) ≡ None)
 unfolding opened
 opened_empty s e = go (eqb (refusal base s) 0) refl e
   where
-    found : (o : Option Coverage) → Empty ≡ venue_of (records s) o → o ≡ none
-    found none q = refl
-    found (some c) q = absurd (let y = ap case_of q in omega arith)
+    found : (o : Option Coverage) → ◌≡◌ {A = Opened} (Ok None) (Ok (venue_of (records s) o)) → o ≡ None
+    found None q = refl
+    found (Some c) q = absurd (cc)
 
-    go : (b : Bool) → eqb (refusal base s) 0 ≡ b → Empty ≡ cond b (venue_of (records s) (coverage_of (records s))) (Refused (refusal base s))
-        → (refusal base s ≡ 0) × (coverage_of (records s) ≡ none)
+    go : (b : Bool) → eqb (refusal base s) 0 ≡ b
+        → ◌≡◌ {A = Opened} (Ok None) (cond b (Ok (venue_of (records s) (coverage_of (records s)))) (Err (refusal base s)))
+        → (refusal base s ≡ 0) × (coverage_of (records s) ≡ None)
     go true i q = (eqb-true (refusal base s) 0 i, found (coverage_of (records s)) q)
-    go false i q = absurd (let y = ap case_of q in omega arith)
+    go false i q = absurd (cc)
 
 -- a venue
 pub record Known (s : List ℕ) (h : Header) : Type 0 where
   pub accepted : refusal base s ≡ 0
   pub covered : Coverage
-  pub is : coverage_of (records s) ≡ some covered
+  pub is : coverage_of (records s) ≡ Some covered
   pub header : h ≡ header_of (records s) covered
 
-pub opened_venue : (s : List ℕ) (h : Header) → Venue h ≡ opened s → Known s h
+pub opened_venue : (s : List ℕ) (h : Header) → ◌≡◌ {A = Opened} (Ok (Some h)) (opened s) → Known s h
 unfolding opened
 opened_venue s h e = go (eqb (refusal base s) 0) refl e
   where
-    header : (c : Coverage) → Venue h ≡ Venue (header_of (records s) c) → h ≡ header_of (records s) c
+    header : (c : Coverage) → ◌≡◌ {A = Opened} (Ok (Some h)) (Ok (Some (header_of (records s) c))) → h ≡ header_of (records s) c
     header c q = cc
 
-    found : refusal base s ≡ 0 → (o : Option Coverage) → coverage_of (records s) ≡ o → Venue h ≡ venue_of (records s) o → Known s h
-    found z none i q = absurd (let y = ap case_of q in omega arith)
-    found z (some c) i q = record { accepted = z; covered = c; is = i; header = header c q }
+    found : refusal base s ≡ 0 → (o : Option Coverage) → coverage_of (records s) ≡ o
+        → ◌≡◌ {A = Opened} (Ok (Some h)) (Ok (venue_of (records s) o)) → Known s h
+    found z None i q = absurd (cc)
+    found z (Some c) i q = record { accepted = z; covered = c; is = i; header = header c q }
 
     go : (b : Bool) → eqb (refusal base s) 0 ≡ b
-        → Venue h ≡ cond b (venue_of (records s) (coverage_of (records s))) (Refused (refusal base s)) → Known s h
+        → ◌≡◌ {A = Opened} (Ok (Some h)) (cond b (Ok (venue_of (records s) (coverage_of (records s)))) (Err (refusal base s))) → Known s h
     go true i q = found (eqb-true (refusal base s) 0 i) (coverage_of (records s)) refl q
-    go false i q = absurd (let y = ap case_of q in omega arith)
+    go false i q = absurd (cc)
+
+-- which opening answers
+pub known_opened : {s : List ℕ} {h : Header} → Known s h → opened s ≡ Ok (Some h)
+unfolding opened
+known_opened {s} {h} k =
+    ap (λ (b : Bool). cond b (Ok (venue_of (records s) (coverage_of (records s)))) (Err (refusal base s))) (eq-eqb (refusal base s) 0 k.accepted)
+    ∙ ap (λ (o : Option Coverage). Ok (venue_of (records s) o)) k.is ∙ ap (λ (x : Header). Ok (Some x)) (sym k.header)
 
 -- ---- instants and their numbers
 
@@ -110,13 +114,13 @@ module _ {s : List ℕ} {h : Header} (k : Known s h) where
   )
 
   not_empty : length s ≡ 0 → ⊥
-  not_empty z = let e : none ≡ some c = sym (ap coverage_of (no_records s k.accepted z)) ∙ k.is in let y : ◌≡◌ {A = ℕ} 0 1 = cc in omega arith
+  not_empty z = let e : None ≡ Some c = sym (ap coverage_of (no_records s k.accepted z)) ∙ k.is in let y : ◌≡◌ {A = ℕ} 0 1 = cc in omega arith
 
   first : Head s
   first = head s k.accepted not_empty
 
   at_head : c ≡ coverage_at s 0
-  at_head = let e : some c ≡ some (coverage_at s 0) = sym k.is ∙ first.is in cc
+  at_head = let e : Some c ≡ Some (coverage_at s 0) = sym k.is ∙ first.is in cc
 
   -- coverage's instants have their numbers
   pub start_number : instant_number (instant_of c.start) ≡ c.start

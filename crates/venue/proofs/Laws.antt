@@ -1,7 +1,7 @@
 -- What an accepted book lists, for those who read it: places, rules, events, header and clock changes. Assumes nothing.
 use mathlib.Core.Path.{◌≡◌, refl, sym, ap, ◌∙◌}
 use mathlib.Core.List.{List, [], ◌∷◌, map}
-use mathlib.Core.Option.{some}
+use Rattle.std.specs.Prelude.{Some}
 use Prim.Native.Nat.{ℕ, zero, suc, ◌≤◌, ◌<◌}
 use native.Mathlib.Nat.{le_of_suc-le-suc}
 use native.Mathlib.Decide.{ℕ_discrete}
@@ -180,14 +180,14 @@ chain s e =
     (λ g at before h n more. rw (one_record s at g h) (n.passes, more))
     (length s) (ahead_start s e)
 
-pub good_coverage : (s : List ℕ) → refusal base s ≡ 0 → (c : Coverage) → coverage_of (records s) ≡ some c → GoodCoverage c
+pub good_coverage : (s : List ℕ) → refusal base s ≡ 0 → (c : Coverage) → coverage_of (records s) ≡ Some c → GoodCoverage c
 good_coverage s e c q = covers_good (records s) (chain s e) c q
 
 -- its clock changes are a zone's
-pub zone_valid : (s : List ℕ) → refusal base s ≡ 0 → (c : Coverage) → coverage_of (records s) ≡ some c
+pub zone_valid : (s : List ℕ) → refusal base s ≡ 0 → (c : Coverage) → coverage_of (records s) ≡ Some c
     → Valid (offset_of c.offset) (ats_of (records s)) (offsets_of (records s))
 zone_valid s e c q = changes_valid (records s) (chain s e) c q
 
 -- a book that is accepted and not empty begins with its coverage
-pub covered : (s : List ℕ) → refusal base s ≡ 0 → (length s ≡ 0 → ⊥) → coverage_of (records s) ≡ some (coverage_at s 0)
+pub covered : (s : List ℕ) → refusal base s ≡ 0 → (length s ≡ 0 → ⊥) → coverage_of (records s) ≡ Some (coverage_at s 0)
 covered s e n = (head s e n).is

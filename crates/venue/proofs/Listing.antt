@@ -6,7 +6,7 @@ use mathlib.Core.List.{List, [], ◌∷◌}
 use Prim.Native.Nat.{ℕ, zero, suc, ◌+◌, ◌-◌, ◌*◌, ◌≤◌, ◌<◌}
 use native.Mathlib.Nat.{sub-zero, le_of_suc-le-suc}
 use native.Mathlib.Omega.{arith}
-use borrow.Author.Tests.{ltb-false, leb-false, eqb-true, eq-eqb, ne_eqb, not-false}
+use borrow.Author.Tests.{ltb-false, leb-false, eqb-true, not-false}
 use lib.ListN.{length, get_or}
 use lib.Dec.{ltb, leb, eqb}
 use lib.Signed.{lt_z}
@@ -16,7 +16,7 @@ use Rattle.wire.specs.Signs.{half, since, meant, turned}
 use Rattle.wire.proofs.Signs.{since_meant, order_lt}
 use Rattle.calendar.specs.Answers.{first_day, last_day, zero_day}
 use Rattle.zone.specs.Units.{day_ns}
-use Rattle.zone.specs.declared.Uncertainty.TheVariants.{Exact, PublishedGranularity, PublishedBound, ProcessStart}
+use Rattle.zone.specs.declared.Uncertainty.TheVariants.{PublishedGranularity, PublishedBound}
 use Rattle.records.specs.Layout.{number, tag, nanoseconds, text, count, time, phase, step, day_first, day_last, rule_kind, event_kind}
 use Rattle.records.specs.Limits.{base}
 use Rattle.records.specs.Records.{Published, Point, rule, event, rule_at, event_at, published_at, points_at, times_at, record_at}
@@ -54,7 +54,7 @@ pub day_value : (x : ℕ) → half w32 - zero_day + first_day ≤ x → x - (hal
 day_value x h = sym (since_meant w32 zero_day x (omega arith))
 
 -- y is such a date's field, as it was read
-pub day_read : {x y : ℕ} → y ≡ x → half w32 - zero_day + first_day ≤ x → x ≤ half w32 - zero_day + last_day
+day_read : {x y : ℕ} → y ≡ x → half w32 - zero_day + first_day ≤ x → x ≤ half w32 - zero_day + last_day
     → (y - (half w32 - zero_day) ≡ day_of (meant w32 x)) × (first_day ≤ y - (half w32 - zero_day)) × (y - (half w32 - zero_day) ≤ last_day)
 day_read {x} {y} e l h = (ap (λ (k : ℕ). k - (half w32 - zero_day)) e ∙ day_value x l, omega arith, omega arith)
 
@@ -74,17 +74,11 @@ module _ (t x n : ℕ) where
   width_value : half w64 ≤ x → x - half w64 ≡ since 0 (meant w64 x)
   width_value h = sym (since_meant w64 0 x (omega arith) ∙ ap (λ (k : ℕ). x - k) (sub-zero (half w64)))
 
-  pub exact : t ≡ 0 → Exact ≡ published told
-  exact e = simp (eq-eqb t 0 e)
-
   pub granular : half w64 ≤ x → t ≡ 1 → PublishedGranularity (x - half w64) ≡ published told
   granular h e = rw e (ap PublishedGranularity (width_value h))
 
   pub bounded : half w64 ≤ x → t ≡ 2 → PublishedBound (x - half w64) n ≡ published told
   bounded h e = rw e (ap (λ (k : ℕ). PublishedBound k n) (width_value h))
-
-  pub started : (t ≡ 0 → ⊥) → (t ≡ 1 → ⊥) → (t ≡ 2 → ⊥) → ProcessStart n ≡ published told
-  started a b c = simp (ne_eqb t 0 a, ne_eqb t 1 b, ne_eqb t 2 c)
 
 -- ---- points and times
 
@@ -191,8 +185,12 @@ module _ {s : List ℕ} {p : ℕ} (l : ListedRule s p) where
     point_below : i < number (count rule_kind) s p
     point_below = let n = points_length s p (number (count rule_kind) s p) in omega arith
 
-    pub point_room : p + step rule_kind * i + ((time rule_kind).from + step rule_kind) ≤ length s
+    point_room : p + step rule_kind * i + ((time rule_kind).from + step rule_kind) ≤ length s
     point_room = let b = point_below in omega (arith, rule_room)
+
+    -- the same by the distance from one point to the next, as it is read
+    pub point_inside : {w : ℕ} → w ≡ step rule_kind → (p + w * i + ((time rule_kind).from + step rule_kind) ≤ length s) × (length s ≤ base.bytes)
+    point_inside e = (rw e (omega (arith, point_room)), l.small)
 
     abbrev here : get_or (rule_at s p).points i midnight ≡ record { time = number (time rule_kind) s (p + step rule_kind * i); phase = number (phase rule_kind) s (p + step rule_kind * i) }
     here = point_at s p (number (count rule_kind) s p) i point_below
@@ -248,13 +246,47 @@ module _ {s : List ℕ} {p : ℕ} (l : ListedEvent s p) where
     time_below : i < number (count event_kind) s p
     time_below = let n = times_length s p (number (count event_kind) s p) in omega arith
 
-    pub event_time_room : p + step event_kind * i + ((time event_kind).from + step event_kind) ≤ length s
+    event_time_room : p + step event_kind * i + ((time event_kind).from + step event_kind) ≤ length s
     event_time_room = let b = time_below in omega (arith, event_room)
+
+    -- the same by the distance from one time to the next, as it is read
+    pub event_time_inside : {w : ℕ} → w ≡ step event_kind → (p + w * i + ((time event_kind).from + step event_kind) ≤ length s) × (length s ≤ base.bytes)
+    event_time_inside e = (rw e (omega (arith, event_time_room)), l.small)
 
     pub event_time_read : {r : ℕ} → r ≡ number (time event_kind) s (p + step event_kind * i) → (r ≡ get_or (event_at s p).times i 0) × (r < day_ns)
     event_time_read {r} e =
         let z = e ∙ sym (time_at s p (number (count event_kind) s p) i time_below) in
         (z, rw z (time_of (event_at s p).times i event_each h))
+
+-- ---- the days of both, as they are read
+
+module _ {k : ℕ} {s : List ℕ} {p : ℕ} (i : (k ≡ rule_kind) ⊎ (k ≡ event_kind)) (l : Listed k s p) where
+  dates_at : Dates (turned w32 (number day_first s p)) (turned w32 (number day_last s p))
+  dates_at = go i
+    where
+      go : (k ≡ rule_kind) ⊎ (k ≡ event_kind) → Dates (turned w32 (number day_first s p)) (turned w32 (number day_last s p))
+      go (inl e) = let m : ListedRule s p = rw e at l in (rule_fields m).dates_in
+      go (inr e) = let m : ListedEvent s p = rw e at l in (event_fields m).dates_in
+
+  pub first_read : {y : ℕ} → y ≡ turned w32 (number day_first s p)
+      → (half w32 - zero_day ≤ y)
+      × (y - (half w32 - zero_day) ≡ day_of (meant w32 (turned w32 (number day_first s p))))
+      × (first_day ≤ y - (half w32 - zero_day))
+      × (y - (half w32 - zero_day) ≤ last_day)
+  first_read e =
+      let d = dates_at in
+      let r = day_read e d.first_low d.first_high in
+      (omega (arith, e, d.first_low), r.0, r.1, r.2)
+
+  pub last_read : {y : ℕ} → y ≡ turned w32 (number day_last s p)
+      → (half w32 - zero_day ≤ y)
+      × (y - (half w32 - zero_day) ≡ day_of (meant w32 (turned w32 (number day_last s p))))
+      × (first_day ≤ y - (half w32 - zero_day))
+      × (y - (half w32 - zero_day) ≤ last_day)
+  last_read e =
+      let d = dates_at in
+      let r = day_read e d.last_low d.last_high in
+      (omega (arith, e, d.last_low), r.0, r.1, r.2)
 
 -- ---- the uncertainty of both
 

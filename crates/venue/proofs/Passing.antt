@@ -27,7 +27,7 @@ use Rattle.records.proofs.Following.{many_moved, many_same, many_other, many_roo
 use Rattle.zone.proofs.Domain.{second_meant}
 use Rattle.venue.specs.Opening.{offset_of, transitions_of, ats_of, offsets_of, places_from, places, rule_places, event_places}
 use Rattle.venue.specs.declared.opened.Counts.{Counts}
-use Rattle.venue.specs.Private.{Fitting, counts_of}
+use Rattle.venue.specs.Private.{counts_of}
 
 -- ---- the records of an accepted book, one after the other
 
@@ -352,16 +352,17 @@ pub record Passing (s ats ats' offsets offsets' rules rules' events events' : Li
   pub ruling : Placing rule_kind s rules rules' turns at rule
   pub eventing : Placing event_kind s events events' turns at event
 
-pub pass_start : (s ats offsets rules events : List ℕ) → Fitting s ats offsets rules events
+pub pass_start : (s ats offsets rules events : List ℕ) → refusal base s ≡ 0
+    → base.transitions ≤ length ats → base.transitions ≤ length offsets → base.rules ≤ length rules → base.events ≤ length events
     → Passing s ats ats offsets offsets rules rules events events 0 0 0 0
-pass_start s ats offsets rules events f =
+pass_start s ats offsets rules events e a o r v =
     record {
       turns = length s;
       before = [];
-      ahead = ahead_start s f.accepted;
-      changing = change_start s ats offsets f.accepted f.ats_long f.offsets_long;
-      ruling = place_start rule_kind s rules f.accepted f.rules_long;
-      eventing = place_start event_kind s events f.accepted f.events_long;
+      ahead = ahead_start s e;
+      changing = change_start s ats offsets e a o;
+      ruling = place_start rule_kind s rules e r;
+      eventing = place_start event_kind s events e v;
     }
 
 -- what holds where a record stands

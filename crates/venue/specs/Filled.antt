@@ -1,15 +1,14 @@
--- Arrays as opening leaves them, and slices of them as readers take them. Assumes nothing.
-use Rattle.std.specs.Prelude.{ℕ, ◌≤◌, ◌≡◌, List, length}
-use Rattle.zone.specs.Answers.{Valid}
+-- Arrays as opening leaves them, and the venue that is read from them. Assumes nothing.
+use Rattle.std.specs.Prelude.{ℕ, ◌≤◌, ◌≡◌, List, length, Some, Ok}
 use Rattle.records.specs.Limits.{base}
 use Rattle.records.specs.Book.{records}
 use Rattle.venue.specs.Opening.{ats_of, offsets_of, opened, stored, rule_places, event_places}
-use Rattle.venue.specs.Reading.{ListedRules, ListedEvents}
-use Rattle.venue.specs.declared.opened.Opened.{Opened}
+use Rattle.venue.specs.declared.opened.Header.{Header}
+use Rattle.venue.specs.declared.venue.Venue.{Venue}
 
--- arrays as opening leaves them
-pub record Filled (s : List ℕ) (o : Opened) (ats offsets rules events : List ℕ) : Type 0 where
-  pub answer : o ≡ opened s
+-- arrays as opening leaves them, where it answers the header h
+pub record Filled (s : List ℕ) (h : Header) (ats offsets rules events : List ℕ) : Type 0 where
+  pub answer : opened s ≡ Ok (Some h)
   pub old_ats : List ℕ
   pub old_offsets : List ℕ
   pub old_rules : List ℕ
@@ -23,9 +22,13 @@ pub record Filled (s : List ℕ) (o : Opened) (ats offsets rules events : List �
   pub rules_long : base.rules ≤ length rules
   pub events_long : base.events ≤ length events
 
--- a zone's slices, and places of rules and of events that an accepted book has
-pub record Ready (s : List ℕ) (first : ℕ) (ats offsets rules events : List ℕ) : Type 0 where
-  pub zone : Valid first ats offsets
-  pub rules_listed : ListedRules s rules
-  pub events_listed : ListedEvents s events
-  pub few : length events ≤ base.events
+-- the venue of the book s, whose header is h
+pub record Holds (s : List ℕ) (h : Header) (v : Venue) : Type 0 where
+  pub coverage : v.coverage ≡ h.coverage
+  pub first : v.clock.offset0 ≡ h.offset0
+  pub ats : v.clock.ats.now ≡ ats_of (records s)
+  pub offsets : v.clock.offsets.now ≡ offsets_of (records s)
+  pub rules_in : v.rules.book.now ≡ s
+  pub rules : v.rules.places.now ≡ rule_places s
+  pub events_in : v.events.book.now ≡ s
+  pub events : v.events.places.now ≡ event_places s

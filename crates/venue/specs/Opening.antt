@@ -1,6 +1,6 @@
 -- What an accepted book holds, as a venue's values, and what opening it answers and stores. Assumes nothing.
 use Rattle.std.specs.Prelude.{ℕ, zero, suc, cond, List, [], ◌∷◌, map, leb, eqb, ℤ, length}
-use Rattle.std.proofs.Math.Option.{Option, none, some}
+use Rattle.std.specs.Prelude.{Option, None, Some, Result, Ok, Err}
 use Rattle.wire.specs.Fields.{wrote}
 use Rattle.wire.specs.Signs.{since}
 use Rattle.calendar.specs.Answers.{zero_day}
@@ -10,8 +10,6 @@ use Rattle.records.specs.Records.{Coverage, Transition, Rule, Event, Record, cov
 use Rattle.records.specs.Book.{kind_at, next_at, many, refusal, records}
 use Rattle.records.specs.Layout.{transition_kind, rule_kind, event_kind}
 use Rattle.venue.specs.declared.opened.Header.{Header}
-use Rattle.venue.specs.declared.opened.Opened.{Opened}
-use Rattle.venue.specs.declared.opened.Opened.TheVariants.{Refused, Empty, Venue}
 
 -- ---- numbers as they are kept: dates since 1899-12-25, offsets plus 57,600 s
 
@@ -25,11 +23,11 @@ day_of n = since zero_day n
 
 -- of the first record
 abbrev pub coverage_of : List Record → Option Coverage
-coverage_of [] = none
-coverage_of (coverage c ∷ rs) = some c
-coverage_of (transition t ∷ rs) = none
-coverage_of (rule r ∷ rs) = none
-coverage_of (event e ∷ rs) = none
+coverage_of [] = None
+coverage_of (coverage c ∷ rs) = Some c
+coverage_of (transition t ∷ rs) = None
+coverage_of (rule r ∷ rs) = None
+coverage_of (event e ∷ rs) = None
 
 unfoldable pub transitions_of : List Record → List Transition
 transitions_of [] = []
@@ -81,8 +79,7 @@ event_places s = places event_kind s
 abbrev pub header_of : List Record → Coverage → Header
 header_of rs c =
     record {
-      start = record { 0 = instant_of c.start };
-      end = record { 0 = instant_of c.end };
+      coverage = record { start = record { 0 = instant_of c.start }; end = record { 0 = instant_of c.end } };
       offset0 = offset_of c.offset;
       transitions = many transition_kind rs;
       rules = many rule_kind rs;
@@ -90,18 +87,17 @@ header_of rs c =
     }
 
 -- without coverage there is no data
-abbrev pub venue_of : List Record → Option Coverage → Opened
-venue_of rs none = Empty
-venue_of rs (some c) = Venue (header_of rs c)
+abbrev pub venue_of : List Record → Option Coverage → Option Header
+venue_of rs None = None
+venue_of rs (Some c) = Some (header_of rs c)
 
-unfoldable pub opened : List ℕ → Opened
-opened s = cond (eqb (refusal base s) 0) (venue_of (records s) (coverage_of (records s))) (Refused (refusal base s))
+unfoldable pub opened : List ℕ → Result (Option Header) ℕ
+opened s = cond (eqb (refusal base s) 0) (Ok (venue_of (records s) (coverage_of (records s)))) (Err (refusal base s))
 
 -- the number of each answer; of a book that is accepted it is that of what is asked of it, 0 where nothing is
-abbrev pub number_opened : Opened → ℕ → ℕ
-number_opened (Refused n) asked = n
-number_opened Empty asked = asked
-number_opened (Venue h) asked = asked
+abbrev pub number_opened : Result (Option Header) ℕ → ℕ → ℕ
+number_opened (Err n) asked = n
+number_opened (Ok h) asked = asked
 
 -- what is stored, from the first place on, unless the book is refused
 unfoldable pub stored : List ℕ → List ℕ → List ℕ → List ℕ

@@ -2,12 +2,13 @@
 
 #![tactic(auto)]
 
+mod event;
 mod opened;
-mod read;
+mod rule;
+mod uncertain;
+mod venue;
 
-pub use opened::{Header, Opened, open};
-pub use read::{
-    event_code, event_evidence, event_first, event_last, event_time, event_times,
-    event_uncertainty, point_phase, point_time, rule_code, rule_derived, rule_evidence, rule_first,
-    rule_label, rule_last, rule_mask, rule_points, rule_uncertainty,
-};
+pub use event::{Event, Events};
+pub use opened::{Header, Room};
+pub use rule::{Rule, Rules};
+pub use venue::Venue;

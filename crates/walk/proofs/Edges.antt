@@ -1,7 +1,7 @@
 -- A date's boundaries, by their place: what each is, the spans from each on, and that they stand near each other. Assumes nothing.
 use mathlib.Core.Path.{◌≡◌, refl, ap}
 use mathlib.Core.List.{List, [], ◌∷◌, map}
-use mathlib.Core.Option.{none}
+use Rattle.std.specs.Prelude.{None}
 use Prim.Native.Nat.{ℕ, zero, suc, ◌≤◌, ◌<◌, max}
 use native.Mathlib.Nat.{not-suc-le-zero, le_of_suc-le-suc}
 use native.Mathlib.Omega.{arith}
@@ -64,7 +64,7 @@ module _ {A : Type 0} (v : Venue A) (d : ℕ) where
 
 module _ (z : Zone) (r : Rule) (d : ℕ) where
   abbrev v : Venue Held
-  v = venue_by z (λ x. none)
+  v = venue_by z (λ x. None)
 
   on_spans : (m : ℕ) (p : Point) (ps : List Point) (k : ℕ) → k < suc (length ps)
       → spans_from z r (drop k (on v d m p ps)) (drop k (p ∷ ps))

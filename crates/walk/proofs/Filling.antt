@@ -9,7 +9,7 @@ use native.Mathlib.Nat.{zero-add}
 use native.Mathlib.Numerals.{add-one}
 use native.Mathlib.Omega.{arith}
 use lib.ListN.{length, set, drop, length-set}
-use lib.Seq.{paste, paste-zero, paste-suc, take-length}
+use lib.Seq.{paste, paste-suc, take-length}
 use Rattle.wire.specs.Fields.{wrote}
 use Rattle.wire.proofs.Signs.{and_true}
 use Rattle.zone.specs.Zone.{Zone, resolve}
@@ -31,9 +31,6 @@ module _ (z : Zone) (r : Rule) (d : ℕ) where
     pub most : i ≤ length r.points
     pub same : a ≡ paste old 0 (edge_instants z r d) i
     pub last : b ≡ before z r d i
-
-  pub filling_none : (old : List ℕ) → Filling old old 0 0
-  filling_none old = record { long = refl; most = omega arith; same = paste-zero old 0 (edge_instants z r d); last = refl }
 
   module _ (old a : List ℕ) (b i x : ℕ) (f : Filling old a b i) (long : length r.points < length old) (some_in : 1 ≤ length r.points) where
     stores : x ≡ instant_at z r d i → set a i x ≡ paste old 0 (edge_instants z r d) (suc i)
@@ -96,9 +93,6 @@ module _ (z : Zone) (r : Rule) (d : ℕ) where
   -- `clear` exactly where none of the first i points is
   abbrev pub ClearTo : Bool → ℕ → Type 0
   ClearTo clear i = (clear ≡ true) ↔ ((j : ℕ) → j < i → Walking.ClearTime z d (point_at z r d j).time)
-
-  pub clear_none : ClearTo true 0
-  clear_none = (λ e j h. absurd (omega arith), λ c. refl)
 
   module _ (clear more : Bool) (i : ℕ) (c : ClearTo clear i) where
     pub clear_next : (u : Uncertainty) → u ≡ uncertain (resolve z (nearest_reading (reading_at d (point_at z r d i).time))) Exact

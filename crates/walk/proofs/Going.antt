@@ -1,7 +1,8 @@
 -- A pass over a walk: at each step a piece comes, or the next turn begins, or the walk is done; and there is less to go. Assumes nothing.
+use Rattle.std.specs.Prelude.{Option, Some}
 use mathlib.Core.Path.{◌≡◌, sym, ap, subst}
 use mathlib.Core.List.{List, [], ◌∷◌, map}
-use mathlib.Core.Option.{none}
+use Rattle.std.specs.Prelude.{None}
 use Prim.Native.Nat.{ℕ, ◌+◌, ◌<◌}
 use native.Mathlib.Omega.{arith}
 use lib.ListN.{length}
@@ -14,28 +15,24 @@ use Rattle.walk.specs.Walking.{shown_part, after_piece, rest, WalkStands, Comes}
 use Rattle.walk.specs.Looking.{IsNextPiece, DateSpent, IsNextTurn, TurnsOn}
 use Rattle.walk.specs.declared.Walk.{Walk}
 use Rattle.walk.specs.declared.Piece.{Piece}
-use Rattle.walk.specs.declared.NextPiece.{NextPiece}
-use Rattle.walk.specs.declared.NextPiece.TheVariants.{Done, Next}
-use Rattle.walk.specs.declared.NextTurn.{NextTurn}
-use Rattle.walk.specs.declared.NextTurn.TheVariants.{Done as NextTurn-as-Done, On}
 use Rattle.walk.proofs.Looking.{piece_spent, piece_comes}
 
 -- ---- a step, as its function answers
 
 module _ (first : ℕ) (ats os : List ℕ) (good : Valid first ats os) (s : List ℕ) (hi : ℕ) {w : Walk} {a : List ℕ}
-    (h : WalkStands s (zone_of first ats os) w a) {p : NextPiece} (l : IsNextPiece s a hi w p) where
-  pub come : (v : Venue Held) {q : Piece} → p ≡ Next q → Comes s (zone_of first ats os) v hi w q a
+    (h : WalkStands s (zone_of first ats os) w a) {p : (Option Piece)} (l : IsNextPiece s a hi w p) where
+  pub come : (v : Venue Held) {q : Piece} → p ≡ Some q → Comes s (zone_of first ats os) v hi w q a
   come v e = piece_comes first ats os good s v hi w a h (subst (IsNextPiece s a hi w) e l)
 
-  pub shown : p ≡ Done → DateSpent s (zone_of first ats os) hi w
-  shown e = piece_spent first ats os good s (venue_by (zone_of first ats os) (λ d. none)) hi w a h (subst (IsNextPiece s a hi w) e l)
+  pub shown : p ≡ None → DateSpent s (zone_of first ats os) hi w
+  shown e = piece_spent first ats os good s (venue_by (zone_of first ats os) (λ d. None)) hi w a h (subst (IsNextPiece s a hi w) e l)
 
-module _ (s : List ℕ) (z : Zone) (v : Venue Held) (hi : ℕ) (w : Walk) (t : NextTurn) (a : List ℕ) (l : IsNextTurn s z v hi w t a) where
-  pub turned : {w' : Walk} → t ≡ On w' → TurnsOn s z v hi w w' a
-  turned e = subst (λ (x : NextTurn). IsNextTurn s z v hi w x a) e l
+module _ (s : List ℕ) (z : Zone) (v : Venue Held) (hi : ℕ) (w : Walk) (t : Option Walk) (a : List ℕ) (l : IsNextTurn s z v hi w t a) where
+  pub turned : {w' : Walk} → t ≡ Some w' → TurnsOn s z v hi w w' a
+  turned e = subst (λ (x : Option Walk). IsNextTurn s z v hi w x a) e l
 
-  pub gone : t ≡ NextTurn-as-Done → rest s z v hi w ≡ []
-  gone e = subst (λ (x : NextTurn). IsNextTurn s z v hi w x a) e l
+  pub gone : t ≡ None → rest s z v hi w ≡ []
+  gone e = subst (λ (x : Option Walk). IsNextTurn s z v hi w x a) e l
 
 -- where the walk stands, by another name
 pub stands_on : {s : List ℕ} {z : Zone} {w w' : Walk} {a : List ℕ} → w' ≡ w → WalkStands s z w a → WalkStands s z w' a

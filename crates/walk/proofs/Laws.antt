@@ -2,7 +2,7 @@
 use mathlib.Core.Path.{◌≡◌, refl, sym, ap, subst}
 use mathlib.Core.Bool.{Bool, true, false, cond}
 use mathlib.Core.List.{List, [], ◌∷◌, ◌++◌, map}
-use mathlib.Core.Option.{Option, none, some}
+use Rattle.std.specs.Prelude.{Option, None, Some}
 use Prim.Native.Nat.{ℕ, zero, suc, ◌*◌, ◌≤◌, ◌<◌, min, max}
 use native.Mathlib.Omega.{arith}
 use borrow.Author.Tests.{lt-ltb, le-ltb, ltb-true, ltb-false}
@@ -85,7 +85,7 @@ module _ {A : Type 0} (v : Venue A) where
       omega (arith, keep_length s.at e.at (v.body r s p e) (cut v r e q.phase qs), cut_length r e q.phase qs)
 
   -- every rule that governs has few points
-  module _ (few : (d : ℕ) (r : Rule) → v.governing d ≡ some r → length r.points ≤ base.points) where
+  module _ (few : (d : ℕ) (r : Rule) → v.governing d ≡ Some r → length r.points ≤ base.points) where
     date_length : (d : ℕ) → length (spans v d) ≤ base.points
     unfolding spans
     date_length d = go (v.governing d) refl
@@ -95,8 +95,8 @@ module _ {A : Type 0} (v : Venue A) where
         points r (p ∷ ps) = cut_length r (raised v 0 d p.time) p.phase ps
 
         go : (o : Option Rule) → v.governing d ≡ o → length (of_rule v d o) ≤ base.points
-        go none e = omega arith
-        go (some r) e = omega (arith, points r r.points, few d r e)
+        go None e = omega arith
+        go (Some r) e = omega (arith, points r r.points, few d r e)
 
     -- a date's in each turn
     pub walk_length : (hi n cursor : ℕ) → length (walk v hi n cursor) ≤ base.points * n
@@ -117,12 +117,12 @@ module _ {A : Type 0} (v : Venue A) where
 
 -- what is left of a walk, as it begins
 pub rest_length : {s : List ℕ} {z : Zone} {v : Venue Held} {turns cursor : ℕ} {w : Walk} {a : List ℕ}
-    → ((d : ℕ) (r : Rule) → v.governing d ≡ some r → length r.points ≤ base.points) → Begun s z v turns cursor w a
+    → ((d : ℕ) (r : Rule) → v.governing d ≡ Some r → length r.points ≤ base.points) → Begun s z v turns cursor w a
     → (hi : ℕ) → length (rest s z v hi w) ≤ base.points * suc turns
 rest_length {v = v} {turns = turns} {cursor = cursor} few b hi =
     rw (b.all hi) (walk_length v few hi (suc turns) cursor)
 
 -- the rules of a book have few points
-pub rules_few : (s : List ℕ) (rules : List ℕ) → ListedRules s rules → (d : ℕ) (r : Rule) → governing_rule (map (rule_at s) rules) d ≡ some r
+pub rules_few : (s : List ℕ) (rules : List ℕ) → ListedRules s rules → (d : ℕ) (r : Rule) → governing_rule (map (rule_at s) rules) d ≡ Some r
     → length r.points ≤ base.points
 rules_few s rules listed d r e = (source_good s r (governing_source s rules listed d r e)).few

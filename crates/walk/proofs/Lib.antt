@@ -8,4 +8,3 @@ pub mod Once
 pub mod Pieces
 pub mod Rest
 pub mod Shifting
-pub mod Showing

@@ -1,10 +1,11 @@
 -- What is left of a walk: hidden spans may be passed over, a span that shows comes first, and where none is left the turn leads on.
 -- Assumes nothing.
+use Rattle.std.specs.Prelude.{Some, ℕ}
 use mathlib.Core.Logic.{◌↔◌}
 use mathlib.Core.Path.{◌≡◌, refl, sym, ap, ap₂, ◌∙◌, subst}
 use mathlib.Core.Bool.{Bool, true, false, cond, ◌||◌}
 use mathlib.Core.List.{List, [], ◌∷◌, ◌++◌}
-use mathlib.Core.Option.{Option, none}
+use Rattle.std.specs.Prelude.{Option, None}
 use Prim.Native.Nat.{ℕ, zero, suc, ◌+◌, ◌-◌, ◌≤◌, ◌<◌, min, max}
 use native.Mathlib.Decide.{dec_lt}
 use native.Mathlib.Numerals.{add-one}
@@ -25,8 +26,6 @@ use Rattle.spans.specs.Timeline.{Edge, Venue, midnight, of_rule, spans, walk}
 use Rattle.spans.proofs.Loops.{clip_from, clip_keep, turn_any}
 use Rattle.day.specs.Days.{Held, venue_by}
 use Rattle.day.specs.Meaning.{ruled}
-use Rattle.day.specs.declared.Governed.{Governed}
-use Rattle.day.specs.declared.Governed.TheVariants.{Nothing, By}
 use Rattle.day.proofs.Points.{points_same}
 use Rattle.walk.specs.Walking.{rule_edges, edge_instants, on_date, onward, rest_with, rest, ClearDate, EdgesKept, WalkStands, held_in, shown_part, end_edge, Showing, Begun, Comes}
 use Rattle.walk.specs.declared.Walk.{Walk}
@@ -51,7 +50,7 @@ module _ (z : Zone) (r : Rule) (d cursor hi : ℕ) where
   at k = instant_at z r d k
 
   abbrev body_at : ℕ → Held
-  body_at k = (venue_by z (λ x. none)).body r (edge_at z r d k) (point_at z r d k).phase (edge_at z r d (suc k))
+  body_at k = (venue_by z (λ x. None)).body r (edge_at z r d k) (point_at z r d k).phase (edge_at z r d (suc k))
 
   at_edge : (k : ℕ) → (edge_at z r d k).at ≡ at k
   at_edge k = sym (get_or-map (λ (e : Edge). e.at) (rule_edges z r d) k nowhere)
@@ -94,7 +93,7 @@ held_in_law : (s : List ℕ) (z : Zone) (q : Piece) → q.point < length (rule_a
     → q.start.0 ≡ instant_at z (rule_at s q.rule) q.date.0 q.point → q.end.0 ≡ instant_at z (rule_at s q.rule) q.date.0 (suc q.point)
     → body_at z (rule_at s q.rule) q.date.0 0 0 q.point ≡ held_in s z q
 held_in_law s z q h e f =
-    ap₂ (λ (x y : Edge). (venue_by z (λ i. none)).body r x (point_at z r d k).phase y)
+    ap₂ (λ (x y : Edge). (venue_by z (λ i. None)).body r x (point_at z r d k).phase y)
     (edge_is z r d k h ∙ ap (λ (i : ℕ). record { date = d; time = (point_at z r d k).time; at = i }) (sym e)) (ends (dec_lt (k + 1) (length r.points)))
   where
     r : Rule
@@ -128,7 +127,7 @@ array_at : (a es : List ℕ) → take (length es) a ≡ es → (j : ℕ) → j <
 array_at a es e j h = sym (get_or-take (length es) a j 0 h) ∙ ap (λ (l : List ℕ). get_or l j 0) e
 
 -- a span that shows, of the rest
-rest_first : {A : Type 0} (v : Venue A) (hi : ℕ) (w : Walk) (x : Span A) (xs : List (Span A)) (g : Governed) (k : ℕ) (c : Bool) → w.began.0 < x.to
+rest_first : {A : Type 0} (v : Venue A) (hi : ℕ) (w : Walk) (x : Span A) (xs : List (Span A)) (g : Option ℕ) (k : ℕ) (c : Bool) → w.began.0 < x.to
     → rest_with v hi w (x ∷ xs)
     ≡ x ∷ rest_with v hi (record { turns = w.turns; began = w.began; cursor = record { 0 = x.to }; date = w.date; governed = g; next = k; clear = c }) xs
 unfolding reach
@@ -137,7 +136,7 @@ rest_first {A} v hi w x xs g k c h =
     ap (λ (b : Bool). x ∷ (xs ++ (let next = reach (cond b x.to (min hi (midnight v (suc w.date.0)))) xs in cond (ltb w.began.0 next) (walk v hi w.turns next) []))) (sym q)
 
 module _ (first : ℕ) (ats os : List ℕ) (good : Valid first ats os) (s : List ℕ) (v : Venue Held) (hi : ℕ) (w : Walk) (a : List ℕ) (p n : ℕ)
-    (stands : WalkStands s (zone_of first ats os) w a) (by : w.governed ≡ By p) (many : n ≡ length (rule_at s p).points) (some_in : 1 ≤ n) where
+    (stands : WalkStands s (zone_of first ats os) w a) (by : w.governed ≡ Some p) (many : n ≡ length (rule_at s p).points) (some_in : 1 ≤ n) where
   abbrev z : Zone
   z = zone_of first ats os
 
@@ -150,8 +149,8 @@ module _ (first : ℕ) (ats os : List ℕ) (good : Valid first ats os) (s : List
   abbrev d : ℕ
   d = w.date.0
 
-  kept_by : EdgesKept s z d w.next w.clear (By p) a
-  kept_by = subst (λ (g : Governed). EdgesKept s z d w.next w.clear g a) by stands.kept
+  kept_by : EdgesKept s z d w.next w.clear (Some p) a
+  kept_by = subst (λ (g : Option ℕ). EdgesKept s z d w.next w.clear g a) by stands.kept
 
   stored : (j : ℕ) → j ≤ n → get_or a j 0 ≡ instant_at z r d j
   stored j h =
@@ -162,7 +161,7 @@ module _ (first : ℕ) (ats os : List ℕ) (good : Valid first ats os) (s : List
   to_here k h =
       let f = h.from in
       let m = h.most in
-      ap (λ (g : Governed). clip cur hi (on_date s z d w.next g)) by
+      ap (λ (g : Option ℕ). clip cur hi (on_date s z d w.next g)) by
       ∙ passed z r d cur hi (k - w.next) w.next k (omega arith) (omega arith)
       (λ j x y. subst (λ (i : ℕ). min hi i ≤ max cur (instant_at z r d j)) (stored (j + 1) (omega arith))
       (subst (λ (i : ℕ). min hi (get_or a (j + 1) 0) ≤ max cur i) (stored j (omega arith)) (h.hidden j x y)))
@@ -227,7 +226,7 @@ module _ (first : ℕ) (ats os : List ℕ) (good : Valid first ats os) (s : List
           record {
             first =
                 ap (rest_with v hi w) here_is
-                ∙ rest_first v hi w (shown_part s z piece) (clip to hi (left z r d (k + 1))) (By p) (k + 1) w.clear (omega arith);
+                ∙ rest_first v hi w (shown_part s z piece) (clip to hi (left z r d (k + 1))) (Some p) (k + 1) w.clear (omega arith);
             fits = record { listed = kept_by.0; point = omega arith; shows = apart; short = omega (arith, start_is, end_is, near); clear = λ i. clear_span s z piece (omega arith) (kept_by.3.0 i) };
             stands = record { kept = (kept_by.0, omega arith, kept_by.2, kept_by.3); forward = omega arith };
             turns = refl;
@@ -284,26 +283,26 @@ module _ (v : Venue Held) (hi turns began cursor date next : ℕ) (e : next ≡ 
 -- ---- a turn begins
 
 -- a date without a rule, and one whose boundaries are written
-pub kept_nothing : (s : List ℕ) (z : Zone) (d : ℕ) (a : List ℕ) {o : Governed} → o ≡ Nothing → EdgesKept s z d 0 true o a
-kept_nothing s z d a e = subst (λ (g : Governed). EdgesKept s z d 0 true g a) (sym e) refl
+pub kept_nothing : (s : List ℕ) (z : Zone) (d : ℕ) (a : List ℕ) {o : (Option ℕ)} → o ≡ None → EdgesKept s z d 0 true o a
+kept_nothing s z d a e = subst (λ (g : Option ℕ). EdgesKept s z d 0 true g a) (sym e) refl
 
-pub kept_rule : (s : List ℕ) (z : Zone) (d : ℕ) (a old : List ℕ) (p : ℕ) {o : Governed} → o ≡ By p → ListedRule s p
+pub kept_rule : (s : List ℕ) (z : Zone) (d : ℕ) (a old : List ℕ) (p : ℕ) {o : (Option ℕ)} → o ≡ Some p → ListedRule s p
     → a ≡ wrote old 0 (edge_instants z (rule_at s p) d) → {clear : Bool}
     → ((clear ≡ true) ↔ ClearDate z (rule_at s p) d) → EdgesKept s z d 0 clear o a
 unfolding wrote
 kept_rule s z d a old p e h w {clear} f =
-    subst (λ (g : Governed). EdgesKept s z d 0 clear g a) (sym e)
+    subst (λ (g : Option ℕ). EdgesKept s z d 0 clear g a) (sym e)
     (h, omega arith, ap (take (length (edge_instants z (rule_at s p) d))) w ∙ take-append_seam (edge_instants z (rule_at s p) d) _, f)
 
-module _ (s : List ℕ) (z : Zone) (g : ℕ → Option Rule) (t : ℕ) (c : Instant) (d : Day) (o : Governed) (clear : Bool) (a : List ℕ)
+module _ (s : List ℕ) (z : Zone) (g : ℕ → Option Rule) (t : ℕ) (c : Instant) (d : Day) (o : Option ℕ) (clear : Bool) (a : List ℕ)
     (date : d.0 ≡ date_at z c.0) (rule : ruled s o ≡ g d.0) (kept : EdgesKept s z d.0 0 clear o a) where
   all_spans : on_date s z d.0 0 o ≡ spans (venue_by z g) d.0
   unfolding spans
   all_spans = go o ∙ ap (of_rule (venue_by z g) d.0) rule
     where
-      go : (x : Governed) → on_date s z d.0 0 x ≡ of_rule (venue_by z g) d.0 (ruled s x)
-      go Nothing = refl
-      go (By p) = sym (left_all z (rule_at s p) d.0) ∙ points_same z (λ x. none) g (rule_at s p) d.0 (rule_at s p).points
+      go : (x : Option ℕ) → on_date s z d.0 0 x ≡ of_rule (venue_by z g) d.0 (ruled s x)
+      go None = refl
+      go (Some p) = sym (left_all z (rule_at s p) d.0) ∙ points_same z (λ x. None) g (rule_at s p) d.0 (rule_at s p).points
 
   abbrev start : Walk
   start = record { turns = t; began = c; cursor = c; date = d; governed = o; next = 0; clear = clear }
@@ -325,7 +324,7 @@ module _ (s : List ℕ) (z : Zone) (g : ℕ → Option Rule) (t : ℕ) (c : Inst
             ∙ sym (turn_any (venue_by z g) hi t c.0);
       }
 
-pub nothing_shows : (s : List ℕ) (z : Zone) (hi : ℕ) (w : Walk) → w.governed ≡ Nothing
+pub nothing_shows : (s : List ℕ) (z : Zone) (hi : ℕ) (w : Walk) → w.governed ≡ None
     → clip w.cursor.0 hi (on_date s z w.date.0 w.next w.governed) ≡ []
 unfolding clip
-nothing_shows s z hi w e = ap (λ (g : Governed). clip w.cursor.0 hi (on_date s z w.date.0 w.next g)) e
+nothing_shows s z hi w e = ap (λ (g : Option ℕ). clip w.cursor.0 hi (on_date s z w.date.0 w.next g)) e

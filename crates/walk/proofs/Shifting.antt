@@ -1,5 +1,6 @@
 -- Where the clock is steady, a date's boundaries are its midnight's shifts, none in doubt. Assumes nothing.
-use mathlib.Core.Path.{◌≡◌, refl, sym, ap, ◌∙◌}
+use Rattle.std.specs.Prelude.{None, Option, Some, ℕ}
+use mathlib.Core.Path.{◌≡◌, sym, ap, ◌∙◌}
 use mathlib.Core.List.{List, [], ◌∷◌}
 use Prim.Native.Nat.{ℕ, zero, suc, ◌+◌, ◌*◌, ◌≤◌, ◌<◌, max}
 use native.Mathlib.Nat.{not-suc-le-zero, le_of_suc-le-suc}
@@ -13,15 +14,13 @@ use Rattle.zone.specs.Steady.{steady_of, day_by, midnight_by, OnWall, DayOnWall}
 use Rattle.zone.specs.declared.Boundary.{Boundary}
 use Rattle.zone.specs.declared.Uncertainty.{Uncertainty}
 use Rattle.zone.specs.declared.Uncertainty.TheVariants.{Exact}
-use Rattle.zone.specs.declared.steady.Steady.{Steady}
-use Rattle.zone.specs.declared.steady.Steady.TheVariants.{No, By}
 use Rattle.zone.proofs.Shifts.{steady_in, steady_date, steady_day_in, in_date, next_midnight as ends-date, steady_boundary}
 use Rattle.records.specs.Records.{Point, Rule}
 use Rattle.venue.specs.Reading.{EachPoint}
 use Rattle.venue.specs.Reading as Reading
 use Rattle.walk.specs.Walking.{edge_instants, ClearDate}
 use Rattle.walk.specs.Shifting.{Shifts, SteadyOn}
-use Rattle.walk.proofs.Filling.{Filling, filling_none, filling_next, filled}
+use Rattle.walk.proofs.Filling.{Filling, filling_next, filled}
 
 -- ---- a steady clock
 
@@ -30,9 +29,6 @@ boundary_at u t = record { at = record { 0 = t }; uncertainty = u }
 
 next_midnight : (o d : ℕ) → o ≤ 2 * most_offset → 3 ≤ d → midnight_by o (suc d) + 0 ≡ midnight_by o d + day_ns
 next_midnight o d h i = omega arith
-
-pub midnight_fits : {o d : ℕ} → DayOnWall o d → midnight_by o d + day_ns < 18446744073709551616
-midnight_fits (h, i, j) = omega arith
 
 -- a day that is b, and the one after it
 on_day : {a b : ℕ} → a ≡ b → (b ≤ a) × (a ≤ suc b)
@@ -51,9 +47,9 @@ module _ (first : ℕ) (ats os : List ℕ) (ok : Valid first ats os) (c : ℕ) w
   same : c ≤ c
   same = omega arith
 
-  pub steady_on : (s : Steady) → s ≡ steady_of z c c → (d : ℕ) → d ≡ date_at z c → SteadyOn z s d
-  steady_on No e d f = tt
-  steady_on (By o) e d f =
+  pub steady_on : (s : Option ℕ) → s ≡ steady_of z c c → (d : ℕ) → d ≡ date_at z c → SteadyOn z s d
+  steady_on None e d f = tt
+  steady_on (Some o) e d f =
       let here = on_day f in
       let next = next_day f in
       let day = steady_day_in first ats os ok c c o same (sym e) d here.0 here.1 in (
@@ -66,14 +62,14 @@ module _ (first : ℕ) (ats os : List ℕ) (ok : Valid first ats os) (c : ℕ) w
         },
       )
 
-  module _ {s : Steady} {o : ℕ} (e : s ≡ steady_of z c c) (b : s ≡ By o) where
+  module _ {s : (Option ℕ)} {o : ℕ} (e : s ≡ steady_of z c c) (b : s ≡ Some o) where
     pub cursor_on : OnWall o c
     cursor_on = steady_in first ats os ok c c o same (sym e ∙ b) c same same
 
     pub cursor_date : {d : ℕ} → d ≡ day_by o c → d ≡ date_at z c
     cursor_date f = f ∙ sym (steady_date first ats os ok c c o same (sym e ∙ b) c same same)
 
-pub shifts_by : {z : Zone} {d o : ℕ} {s : Steady} → s ≡ By o → SteadyOn z s d → DayOnWall o d × Shifts z d (midnight_by o d)
+pub shifts_by : {z : Zone} {d o : ℕ} {s : (Option ℕ)} → s ≡ Some o → SteadyOn z s d → DayOnWall o d × Shifts z d (midnight_by o d)
 shifts_by b h = rw b at h
 
 -- ---- none in doubt
@@ -96,9 +92,6 @@ pub record Shifting (r : Rule) (m : ℕ) (old a : List ℕ) (b i : ℕ) : Type 0
   pub long : length a ≡ length old
   pub most : i ≤ length r.points
   pub filling : (z : Zone) (d : ℕ) → Shifts z d m → Filling z r d old a b i
-
-pub shifting_none : (r : Rule) (m : ℕ) (old : List ℕ) → Shifting r m old old 0 0
-shifting_none r m old = record { long = refl; most = omega arith; filling = λ z d g. filling_none z r d old }
 
 module _ (r : Rule) (m : ℕ) (old a : List ℕ) (b i x : ℕ) (s : Shifting r m old a b i) (l : length r.points < length old)
     (k : 1 ≤ length r.points) where

@@ -1,28 +1,23 @@
 -- A step of the walk, as its two functions take it: what of the date at hand shows, and where a date leads that shows no more. Assumes nothing.
+use Rattle.std.specs.Prelude.{Option, Some}
 use Rattle.std.specs.Prelude.{ℕ, ◌+◌, ◌-◌, ◌≤◌, ◌<◌, min, max, ◌≡◌, Bool, true, false, not, ◌||◌, leb, eqb, List, [], length, get_or}
-use Rattle.std.proofs.Math.Option.{none}
+use Rattle.std.specs.Prelude.{None}
 use Rattle.zone.specs.Zone.{Zone}
 use Rattle.records.specs.Records.{rule_at}
 use Rattle.venue.specs.Reading.{ListedRule}
 use Rattle.spans.specs.Spans.{clip}
 use Rattle.spans.specs.Timeline.{Venue}
 use Rattle.day.specs.Days.{Held, venue_by}
-use Rattle.day.specs.declared.Governed.{Governed}
-use Rattle.day.specs.declared.Governed.TheVariants.{Nothing, By}
 use Rattle.walk.specs.Walking.{on_date, onward, rest, WalkStands, Showing, BegunAs}
 use Rattle.walk.specs.declared.Walk.{Walk}
 use Rattle.walk.specs.declared.Piece.{Piece}
-use Rattle.walk.specs.declared.NextPiece.{NextPiece}
-use Rattle.walk.specs.declared.NextPiece.TheVariants.{Done, Next}
-use Rattle.walk.specs.declared.NextTurn.{NextTurn}
-use Rattle.walk.specs.declared.NextTurn.TheVariants.{Done as NextTurn-as-Done, On}
 
 -- ---- the date at hand
 
 -- the date's rule is one of the book, and the next of its spans one that it can have
-abbrev pub RuleHeld : List ℕ → ℕ → Governed → Type 0
-RuleHeld s k Nothing = Unit {0}
-RuleHeld s k (By p) = ListedRule s p × (k ≤ length (rule_at s p).points)
+abbrev pub RuleHeld : List ℕ → ℕ → Option ℕ → Type 0
+RuleHeld s k None = Unit {0}
+RuleHeld s k (Some p) = ListedRule s p × (k ≤ length (rule_at s p).points)
 
 abbrev pub WalkHolds : List ℕ → Walk → Type 0
 WalkHolds s w = RuleHeld s w.next w.governed
@@ -44,20 +39,20 @@ piece_at a hi w p k =
     }
 
 -- by the boundaries in the array none of the date's spans shows
-abbrev pub NoneShows : List ℕ → List ℕ → ℕ → Walk → Governed → Type 0
-NoneShows s a hi w Nothing = Unit {0}
-NoneShows s a hi w (By p) = Showing a w.next (length (rule_at s p).points) w.cursor.0 hi (length (rule_at s p).points)
+abbrev pub NoneShows : List ℕ → List ℕ → ℕ → Walk → Option ℕ → Type 0
+NoneShows s a hi w None = Unit {0}
+NoneShows s a hi w (Some p) = Showing a w.next (length (rule_at s p).points) w.cursor.0 hi (length (rule_at s p).points)
 
 -- the k-th is the first that does
 pub record FirstShows (s a : List ℕ) (hi : ℕ) (w : Walk) (q : Piece) (p k : ℕ) : Type 0 where
-  pub by : w.governed ≡ By p
+  pub by : w.governed ≡ Some p
   pub inside : k < length (rule_at s p).points
   pub first : Showing a w.next (length (rule_at s p).points) w.cursor.0 hi k
   pub is : q ≡ piece_at a hi w p k
 
-abbrev pub IsNextPiece : List ℕ → List ℕ → ℕ → Walk → NextPiece → Type 0
-IsNextPiece s a hi w Done = NoneShows s a hi w w.governed
-IsNextPiece s a hi w (Next q) = (p : ℕ) × ((k : ℕ) × FirstShows s a hi w q p k)
+abbrev pub IsNextPiece : List ℕ → List ℕ → ℕ → Walk → Option Piece → Type 0
+IsNextPiece s a hi w None = NoneShows s a hi w w.governed
+IsNextPiece s a hi w (Some q) = (p : ℕ) × ((k : ℕ) × FirstShows s a hi w q p k)
 
 -- none of the date's spans shows
 abbrev pub DateSpent : List ℕ → Zone → ℕ → Walk → Type 0
@@ -70,18 +65,18 @@ pub record TurnsOn (s : List ℕ) (z : Zone) (v : Venue Held) (hi : ℕ) (w w' :
   pub stands : WalkStands s z w' a
   pub fewer : w'.turns < w.turns
 
-abbrev pub IsNextTurn : List ℕ → Zone → Venue Held → ℕ → Walk → NextTurn → List ℕ → Type 0
-IsNextTurn s z v hi w NextTurn-as-Done a = rest s z v hi w ≡ []
-IsNextTurn s z v hi w (On w') a = TurnsOn s z v hi w w' a
+abbrev pub IsNextTurn : List ℕ → Zone → Venue Held → ℕ → Walk → Option Walk → List ℕ → Type 0
+IsNextTurn s z v hi w None a = rest s z v hi w ≡ []
+IsNextTurn s z v hi w (Some w') a = TurnsOn s z v hi w w' a
 
 -- what it sets: where the next turn begins, if it is later than this one and one is left; else both lent arrays are as they were
 abbrev pub next_at : Zone → ℕ → Walk → ℕ
-next_at z hi w = onward (venue_by z (λ x. none)) hi w.began.0 w.cursor.0 w.date.0
+next_at z hi w = onward (venue_by z (λ x. None)) hi w.began.0 w.cursor.0 w.date.0
 
 abbrev pub goes_on : Zone → ℕ → Walk → Bool
 goes_on z hi w = not (leb (next_at z hi w) w.began.0 || eqb w.turns 0)
 
-abbrev pub TurnSets : List ℕ → Zone → List ℕ → ℕ → Walk → List ℕ → List ℕ → NextTurn → List ℕ → List ℕ → Type 0
-TurnSets s z rules hi w old kept NextTurn-as-Done a kept' = (goes_on z hi w ≡ false) × (a ≡ old) × (kept' ≡ kept)
-TurnSets s z rules hi w old kept (On w') a kept' =
+abbrev pub TurnSets : List ℕ → Zone → List ℕ → ℕ → Walk → List ℕ → List ℕ → Option Walk → List ℕ → List ℕ → Type 0
+TurnSets s z rules hi w old kept None a kept' = (goes_on z hi w ≡ false) × (a ≡ old) × (kept' ≡ kept)
+TurnSets s z rules hi w old kept (Some w') a kept' =
     (goes_on z hi w ≡ true) × BegunAs s z rules (w.turns - 1) (next_at z hi w) old kept w' a kept'

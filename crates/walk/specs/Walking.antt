@@ -1,6 +1,7 @@
 -- The walk, one span after the other: a date's boundaries, where the walk stands, and what is left of it. Assumes nothing.
+use Rattle.std.specs.Prelude.{Option, Some}
 use Rattle.std.specs.Prelude.{ℕ, suc, ◌+◌, ◌≤◌, ◌<◌, min, max, ◌≡◌, Bool, true, false, cond, List, [], ◌∷◌, ◌++◌, map, ◌↔◌, ltb, length, get_or, take, drop}
-use Rattle.std.proofs.Math.Option.{none}
+use Rattle.std.specs.Prelude.{None}
 use Rattle.wire.specs.Fields.{wrote}
 use Rattle.zone.specs.Zone.{Zone, resolve, date_at}
 use Rattle.zone.specs.Units.{day_ns, most_offset_ns, nearest_reading, reading_at}
@@ -14,10 +15,7 @@ use Rattle.spans.specs.Spans.{Span, clip, reach}
 use Rattle.spans.specs.Timeline.{Edge, Venue, midnight, raised, cut, walk}
 use Rattle.day.specs.Governing.{governing_place}
 use Rattle.day.specs.Days.{Held, venue_by}
-use Rattle.day.specs.Meaning.{place_of}
 use Rattle.day.specs.Keeping.{kept_after}
-use Rattle.day.specs.declared.Governed.{Governed}
-use Rattle.day.specs.declared.Governed.TheVariants.{Nothing, By}
 use Rattle.walk.specs.declared.Walk.{Walk}
 use Rattle.walk.specs.declared.Piece.{Piece}
 
@@ -34,7 +32,7 @@ edges v d (p ∷ ps) = edges_from v (raised v 0 d p.time) ps
 
 -- a rule's boundaries do not ask which rule governs
 abbrev pub rule_edges : Zone → Rule → ℕ → List Edge
-rule_edges z r d = edges (venue_by z (λ x. none)) d r.points
+rule_edges z r d = edges (venue_by z (λ x. None)) d r.points
 
 abbrev pub edge_instants : Zone → Rule → ℕ → List ℕ
 edge_instants z r d = map (λ (e : Edge). e.at) (rule_edges z r d)
@@ -62,12 +60,12 @@ pub record ClearDate (z : Zone) (r : Rule) (d : ℕ) : Type 0 where
 abbrev pub spans_from : Zone → Rule → List Edge → List Point → List (Span Held)
 spans_from z r [] ps = []
 spans_from z r (e ∷ es) [] = []
-spans_from z r (e ∷ es) (p ∷ ps) = cut (venue_by z (λ x. none)) r e p.phase ps
+spans_from z r (e ∷ es) (p ∷ ps) = cut (venue_by z (λ x. None)) r e p.phase ps
 
 -- of a date, from its k-th span on
-abbrev pub on_date : List ℕ → Zone → ℕ → ℕ → Governed → List (Span Held)
-on_date s z d k Nothing = []
-on_date s z d k (By p) = let r = rule_at s p in spans_from z r (drop k (rule_edges z r d)) (drop k r.points)
+abbrev pub on_date : List ℕ → Zone → ℕ → ℕ → Option ℕ → List (Span Held)
+on_date s z d k None = []
+on_date s z d k (Some p) = let r = rule_at s p in spans_from z r (drop k (rule_edges z r d)) (drop k r.points)
 
 -- where a turn leads that shows no more spans: to the end of its last one, or where it had none to the next midnight
 abbrev pub onward : {A : Type 0} → Venue A → ℕ → ℕ → ℕ → ℕ → ℕ
@@ -84,9 +82,9 @@ rest s z v hi w = rest_with v hi w (clip w.cursor.0 hi (on_date s z w.date.0 w.n
 -- ---- where the walk stands
 
 -- the first boundaries of an array are those of a date, and it is clear exactly where none is in doubt
-abbrev pub EdgesKept : List ℕ → Zone → ℕ → ℕ → Bool → Governed → List ℕ → Type 0
-EdgesKept s z d k clear Nothing a = clear ≡ true
-EdgesKept s z d k clear (By p) a =
+abbrev pub EdgesKept : List ℕ → Zone → ℕ → ℕ → Bool → Option ℕ → List ℕ → Type 0
+EdgesKept s z d k clear None a = clear ≡ true
+EdgesKept s z d k clear (Some p) a =
     ListedRule s p × (k ≤ length (rule_at s p).points) × (take (length (edge_instants z (rule_at s p) d)) a ≡ edge_instants z (rule_at s p) d)
     × ((clear ≡ true) ↔ ClearDate z (rule_at s p) d)
 
@@ -113,7 +111,7 @@ end_edge s q =
 
 -- what its span holds
 abbrev pub held_in : List ℕ → Zone → Piece → Held
-held_in s z q = (venue_by z (λ x. none)).body (rule_of s q) (start_edge s q) (point_of s q q.point).phase (end_edge s q)
+held_in s z q = (venue_by z (λ x. None)).body (rule_of s q) (start_edge s q) (point_of s q q.point).phase (end_edge s q)
 
 -- between boundaries that are not in doubt
 abbrev pub clear_in : List ℕ → Piece → Held
@@ -133,7 +131,7 @@ after_piece q =
       began = q.began;
       cursor = q.to;
       date = q.date;
-      governed = By q.rule;
+      governed = Some q.rule;
       next = q.point + 1;
       clear = q.clear;
     }
@@ -167,9 +165,9 @@ pub record Begun (s : List ℕ) (z : Zone) (v : Venue Held) (turns cursor : ℕ)
   pub all : (hi : ℕ) → rest s z v hi w ≡ walk v hi (suc turns) cursor
 
 -- the array of boundaries after it: as it was where no rule governs the date
-abbrev pub edges_after : List ℕ → Zone → ℕ → Governed → List ℕ → List ℕ
-edges_after s z d Nothing a = a
-edges_after s z d (By p) a = wrote a 0 (edge_instants z (rule_at s p) d)
+abbrev pub edges_after : List ℕ → Zone → ℕ → Option ℕ → List ℕ → List ℕ
+edges_after s z d None a = a
+edges_after s z d (Some p) a = wrote a 0 (edge_instants z (rule_at s p) d)
 
 -- what it sets, of the walk and of both lent arrays
 pub record BegunAs (s : List ℕ) (z : Zone) (rules : List ℕ) (turns cursor : ℕ) (old kept : List ℕ) (w : Walk) (a kept' : List ℕ) : Type 0 where
@@ -177,7 +175,7 @@ pub record BegunAs (s : List ℕ) (z : Zone) (rules : List ℕ) (turns cursor : 
   pub began : w.began.0 ≡ cursor
   pub at : w.cursor.0 ≡ cursor
   pub date : w.date.0 ≡ date_at z cursor
-  pub place : place_of w.governed ≡ governing_place s rules w.date.0
+  pub place : w.governed ≡ governing_place s rules w.date.0
   pub next : w.next ≡ 0
   pub edges : a ≡ edges_after s z w.date.0 w.governed old
   pub keeps : kept' ≡ kept_after s rules w.date.0 kept

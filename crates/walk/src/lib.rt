@@ -7,7 +7,6 @@ mod step;
 mod turn;
 
 use calendar::Day;
-use day::Governed;
 use records::MOST_POINTS;
 pub use step::{after_piece, next_piece, next_turn, segment};
 pub use turn::begin;
@@ -19,15 +18,15 @@ pub const MOST_BOUNDARIES: usize = MOST_POINTS as usize + 1;
 // The most turns that a walk takes.
 pub const MOST_TURNS: u32 = 3_660;
 
-// Where a walk stands: how many turns are left after this one, the cursor as the turn began and as it is now, the turn's date, the rule
-// that governs it, which of the date's spans is next, and whether none of the date's boundaries is in doubt.
+// Where a walk stands: how many turns are left after this one, the cursor as the turn began and as it is now, the turn's date, where the rule
+// stands that governs it, which of the date's spans is next, and whether none of the date's boundaries is in doubt.
 #[derive(Clone, Copy)]
 pub struct Walk {
     pub turns: u32,
     pub began: Instant,
     pub cursor: Instant,
     pub date: Day,
-    pub governed: Governed,
+    pub governed: Option<u32>,
     pub next: usize,
     pub clear: bool,
 }
@@ -46,18 +45,4 @@ pub struct Piece {
     pub clear: bool,
     pub turns: u32,
     pub began: Instant,
-}
-
-// The next piece of the date at hand.
-#[derive(Clone, Copy)]
-pub enum NextPiece {
-    Done,
-    Next(Piece),
-}
-
-// The next turn of a walk.
-#[derive(Clone, Copy)]
-pub enum NextTurn {
-    Done,
-    On(Walk),
 }

@@ -2,5 +2,4 @@ mod Sizes
 mod Pieces
 mod Records
 mod Passes
-mod Heads
 mod Steps

@@ -20,17 +20,13 @@ use Rattle.span_records.proofs.Trailing.{events_length}
 use Rattle.joining.specs.Joining.{phases}
 use Rattle.walk_records.specs.Walked.{phase_forms}
 use Rattle.joining.specs.Amending.{merged_phase}
-use Rattle.joining.specs.declared.Last.{Last}
-use Rattle.joining.specs.declared.Last.TheVariants.{Nothing, Shows}
+use Rattle.std.specs.Prelude.{Option, Some, None}
 use Rattle.walk_records.proofs.Sizes.{head_bytes, event_bytes, bytes_of, head_length, bytes_cons, both_events, from_more, spans_most}
 use Rattle.joining.proofs.Laws.{many, head_at, both_heads, joins_next}
 use Rattle.events.specs.Happenings.{most_in_span}
-use Rattle.walk_records.specs.Private.{Recorded}
+use Rattle.walk_records.specs.Private.{shows, events_place, events_before, told, Recorded}
+use Rattle.walk_records.specs.declared.put.Written.{Written}
 use Rattle.walk_records.proofs.Records.{record_behind, amended, stood}
-
--- what the record shows that the next span may join, if there is one
-abbrev pub shows : Bool → Phase → Last
-shows begun h = cond begun (Shows h.end h.phase h.evidence) Nothing
 
 -- no span yet
 pub record Starts (target written : List ℕ) (left : List (Span Shown)) : Type 0 where
@@ -39,31 +35,29 @@ pub record Starts (target written : List ℕ) (left : List (Span Shown)) : Type 
   pub few : length left ≤ spans_most
 
 -- the record of the last span stands behind `done`, and its events behind that
-pub record Ends (at : ℕ) (target written : List ℕ) (stand : ℕ) (head : Phase) (left : List (Span Shown)) : Type 0 where
+pub record Ends (at : ℕ) (target written : List ℕ) (r : Written) (left : List (Span Shown)) : Type 0 where
   pub last : Span Shown
   pub done : List ℕ
-  pub says : head ≡ head_at last
-  pub stands : stand ≡ at + length done
+  pub says : r.head ≡ head_at last
+  pub stands : r.stand ≡ at + length done
   pub parts : written ≡ done ++ (head_bytes last ++ event_bytes last)
   pub rest : target ≡ done ++ bytes_of (join_from phases last left)
   pub few : many last + most_in_span * length left ≤ most_in_span * spans_most
 
-abbrev pub Made : ℕ → List ℕ → List ℕ → Bool → ℕ → Phase → List (Span Shown) → Type 0
-Made at target written false stand head left = Starts target written left
-Made at target written true stand head left = Ends at target written stand head left
+abbrev pub Made : ℕ → List ℕ → List ℕ → Option Written → List (Span Shown) → Type 0
+Made at target written None left = Starts target written left
+Made at target written (Some r) left = Ends at target written r left
 
-pub record Writing (room : List ℕ) (at : ℕ) (target now : List ℕ) (begun : Bool) (stand : ℕ) (head : Phase) (place : ℕ)
-    (left : List (Span Shown)) : Type 0 where
+pub record Writing (room : List ℕ) (at : ℕ) (target now : List ℕ) (last : Option Written) (place : ℕ) (left : List (Span Shown)) : Type 0 where
   pub fits : at + length target ≤ length room
   pub written : List ℕ
   pub size : ℕ
   pub put : Put room at written size now place
-  pub made : Made at target written begun stand head left
+  pub made : Made at target written last left
 
-pub write_start : (room : List ℕ) (at : ℕ) (head : Phase) (qs : List (Span Shown)) → length qs ≤ spans_most
-    → at + length (bytes_of (joined phases qs)) ≤ length room
-    → Writing room at (bytes_of (joined phases qs)) room false at head at qs
-write_start room at head qs h p =
+pub write_start : (room : List ℕ) (at : ℕ) (qs : List (Span Shown)) → length qs ≤ spans_most
+    → at + length (bytes_of (joined phases qs)) ≤ length room → Writing room at (bytes_of (joined phases qs)) room None at qs
+write_start room at qs h p =
     record {
       fits = p;
       written = [];
@@ -78,55 +72,44 @@ write_start room at head qs h p =
 from_least : (q : Span Shown) (qs : List (Span Shown)) → phase_size + event_size * many q ≤ length (bytes_of (join_from phases q qs))
 from_least q qs = omega (arith, from_more q qs)
 
--- behind a span: where its events go, where its record stands, and what that says
-abbrev pub trail_at : Bool → ℕ → ℕ
-trail_at joining place = cond joining place (place + phase_size)
-
-abbrev pub stand_at : Bool → ℕ → ℕ → ℕ
-stand_at joining stand place = cond joining stand place
-
-abbrev pub head_by : Bool → Phase → Phase → Phase
-head_by joining head new = cond joining (merged_phase head new) new
-
 -- what the code asks for while it writes the span q, and what that leaves
-pub record Goes (room : List ℕ) (at : ℕ) (target now : List ℕ) (stand : ℕ) (head : Phase) (place : ℕ) (q : Span Shown) (qs : List (Span Shown))
-    (joining : Bool) : Type 0 where
-  pub begin : place + cond joining 0 phase_size ≤ length room
-  pub space : Inside (trail_at joining place) (event_size * many q) now
-  pub count : cond joining head.events 0 + many q < 4294967296
-  pub ready : {now1 : List ℕ} {end : ℕ} → Put now (trail_at joining place) (event_bytes q) (event_size * many q) now1 end
-      → Recorded now1 (stand_at joining stand place) joining (head_by joining head (head_at q))
-  pub next : {now1 now2 : List ℕ} {end : ℕ} → Put now (trail_at joining place) (event_bytes q) (event_size * many q) now1 end
-      → now2 ≡ wrote now1 (stand_at joining stand place) (encode (phase (phase_of (head_by joining head (head_at q)))))
-      → Writing room at target now2 true (stand_at joining stand place) (head_by joining head (head_at q)) end qs
+pub record Goes (room : List ℕ) (at : ℕ) (target now : List ℕ) (place : ℕ) (q : Span Shown) (qs : List (Span Shown)) (joined : Option Written) : Type 0 where
+  pub begin : events_place joined place ≤ length room
+  pub space : Inside (events_place joined place) (event_size * many q) now
+  pub count : events_before joined + many q < 4294967296
+  pub ready : {now1 : List ℕ} {end : ℕ} → Put now (events_place joined place) (event_bytes q) (event_size * many q) now1 end
+      → Recorded now1 joined (told joined (head_at q) place)
+  pub next : {now1 now2 : List ℕ} {end : ℕ} → Put now (events_place joined place) (event_bytes q) (event_size * many q) now1 end
+      → now2 ≡ wrote now1 (told joined (head_at q) place).stand (encode (phase (phase_of (told joined (head_at q) place).head)))
+      → Writing room at target now2 (Some (told joined (head_at q) place)) end qs
 
 -- whether it joins is read off the record
-joins_is : (s q : Span Shown) {head : Phase} → head ≡ head_at s → {b : Bool} → joins_next (shows true head) q ≡ b → joins phases s q ≡ b
-joins_is s q h e = ap (λ (x : Phase). joins_next (shows true x) q) (sym h) ∙ e
+joins_is : (s q : Span Shown) (r : Written) → r.head ≡ head_at s → {b : Bool} → joins_next (shows (Some r)) q ≡ b → joins phases s q ≡ b
+joins_is s q r h e = ap (λ (x : Phase). joins_next (shows (Some (record { head = x; stand = r.stand }))) q) (sym h) ∙ e
 
-module _ {room : List ℕ} {at : ℕ} {target now : List ℕ} {stand : ℕ} {head : Phase} {place : ℕ} {q : Span Shown} {qs : List (Span Shown)} where
+module _ {room : List ℕ} {at : ℕ} {target now : List ℕ} {place : ℕ} {q : Span Shown} {qs : List (Span Shown)} where
   -- it does not join: all that is left comes behind what was written
-  ahead : (begun : Bool) (w : Writing room at target now begun stand head place (q ∷ qs)) → joins_next (shows begun head) q ≡ false
+  ahead : (last : Option Written) (w : Writing room at target now last place (q ∷ qs)) → joins_next (shows last) q ≡ false
       → (target ≡ w.written ++ bytes_of (join_from phases q qs)) × (length (q ∷ qs) ≤ spans_most)
   unfolding joined
-  ahead false w e = (w.made.rest ∙ ap (λ (x : List ℕ). x ++ bytes_of (join_from phases q qs)) (sym w.made.nothing), w.made.few)
-  ahead true w e =
+  ahead None w e = (w.made.rest ∙ ap (λ (x : List ℕ). x ++ bytes_of (join_from phases q qs)) (sym w.made.nothing), w.made.few)
+  ahead (Some r) w e =
       let o = w.made in
       let s = o.last in (
-        o.rest ∙ ap (λ (x : List (Span Shown)). o.done ++ bytes_of x) (stays phases [] s q qs (joins_is s q o.says e))
+        o.rest ∙ ap (λ (x : List (Span Shown)). o.done ++ bytes_of x) (stays phases [] s q qs (joins_is s q r o.says e))
             ∙ ap (λ (x : List ℕ). o.done ++ x) (bytes_cons s (join_from phases q qs)) ∙ rw o.parts (simp append_assoc),
         omega (arith, o.few),
       )
 
-  module _ (l : many q ≤ most_in_span) (begun : Bool) (w : Writing room at target now begun stand head place (q ∷ qs))
-      (e : joins_next (shows begun head) q ≡ false) where
+  module _ (l : many q ≤ most_in_span) (last : Option Written) (w : Writing room at target now last place (q ∷ qs))
+      (e : joins_next (shows last) q ≡ false) where
     own_room : place + (phase_size + event_size * many q) ≤ length now
     own_room =
-        let a = ap length (ahead begun w e).0 in
+        let a = ap length (ahead last w e).0 in
         omega (arith, length-append w.written (bytes_of (join_from phases q qs)), from_least q qs, w.fits, w.put.behind, w.put.many, w.put.kept)
 
     own_write : {now1 now2 : List ℕ} {end : ℕ} → Put now (place + phase_size) (event_bytes q) (event_size * many q) now1 end → now2 ≡ wrote now1 place (head_bytes q)
-        → Writing room at target now2 true place (head_at q) end qs
+        → Writing room at target now2 (Some (told None (head_at q) place)) end qs
     own_write y z =
         let h = head_length (head_at q) in
         record {
@@ -141,20 +124,20 @@ module _ {room : List ℕ} {at : ℕ} {target now : List ℕ} {stand : ℕ} {hea
                 says = refl;
                 stands = omega (arith, w.put.behind, w.put.many);
                 parts = refl;
-                rest = (ahead begun w e).0;
-                few = let f = (ahead begun w e).1 in omega arith;
+                rest = (ahead last w e).0;
+                few = let f = (ahead last w e).1 in omega arith;
               };
         }
 
     own_ready : {now1 : List ℕ} {end : ℕ} → Put now (place + phase_size) (event_bytes q) (event_size * many q) now1 end → Inside place phase_size now1
     own_ready y = omega (arith, own_room, y.kept)
 
-    own_goes : Goes room at target now stand head place q qs false
+    own_goes : Goes room at target now place q qs None
     own_goes = record { begin = omega (arith, own_room, w.put.kept); space = omega (arith, own_room); count = omega arith; ready = own_ready; next = own_write }
 
   -- it joins, and amends the record of the span before
-  module _ (l : many q ≤ most_in_span) (w : Writing room at target now true stand head place (q ∷ qs)) (e : joins_next (shows true head) q ≡ true) where
-    abbrev o : Ends at target w.written stand head (q ∷ qs)
+  module _ {r : Written} (l : many q ≤ most_in_span) (w : Writing room at target now (Some r) place (q ∷ qs)) (e : joins_next (shows (Some r)) q ≡ true) where
+    abbrev o : Ends at target w.written r (q ∷ qs)
     o = w.made
 
     abbrev s : Span Shown
@@ -163,10 +146,13 @@ module _ {room : List ℕ} {at : ℕ} {target now : List ℕ} {stand : ℕ} {hea
     abbrev both : Span Shown
     both = joined_span phases s q
 
-    both_rest : target ≡ o.done ++ bytes_of (join_from phases both qs)
-    both_rest = o.rest ∙ ap (λ (x : List (Span Shown)). o.done ++ bytes_of x) (amend phases [] s q qs (joins_is s q o.says e))
+    abbrev new : Written
+    new = told (Some r) (head_at q) place
 
-    both_says : merged_phase head (head_at q) ≡ head_at both
+    both_rest : target ≡ o.done ++ bytes_of (join_from phases both qs)
+    both_rest = o.rest ∙ ap (λ (x : List (Span Shown)). o.done ++ bytes_of x) (amend phases [] s q qs (joins_is s q r o.says e))
+
+    both_says : new.head ≡ head_at both
     both_says = ap (λ (x : Phase). merged_phase x (head_at q)) o.says ∙ both_heads s q
 
     so_far : Put room at (o.done ++ (head_bytes s ++ event_bytes s)) w.size now place
@@ -181,13 +167,13 @@ module _ {room : List ℕ} {at : ℕ} {target now : List ℕ} {stand : ℕ} {hea
         let n = length-append s.body.events q.body.events in
         omega (arith, so_long, from_least both qs, w.fits, w.put.behind, w.put.kept)
 
-    join_ready : {now1 : List ℕ} {end : ℕ} → Put now place (event_bytes q) (event_size * many q) now1 end → Amends now1 stand (merged_phase head (head_at q))
+    join_ready : {now1 : List ℕ} {end : ℕ} → Put now place (event_bytes q) (event_size * many q) now1 end → Amends now1 r.stand new.head
     join_ready {now1} y =
-        let inside : Inside stand phase_size now1 = omega (arith, so_long, join_room, o.stands, w.put.behind, y.kept) in
+        let inside : Inside r.stand phase_size now1 = omega (arith, so_long, join_room, o.stands, w.put.behind, y.kept) in
         record {
-          old = head;
+          old = r.head;
           inside = inside;
-          stands = rw o.says (front_stands (phase_of (head_at s)) now1 stand (stood o.done (head_bytes s) (event_bytes s) so_far y join_room o.stands) inside);
+          stands = rw o.says (front_stands (phase_of (head_at s)) now1 r.stand (stood o.done (head_bytes s) (event_bytes s) so_far y join_room o.stands) inside);
           start = refl;
           phase = refl;
           code = refl;
@@ -198,15 +184,16 @@ module _ {room : List ℕ} {at : ℕ} {target now : List ℕ} {stand : ℕ} {hea
         }
 
     join_write : {now1 now2 : List ℕ} {end : ℕ} → Put now place (event_bytes q) (event_size * many q) now1 end
-        → now2 ≡ wrote now1 stand (encode (phase (phase_of (merged_phase head (head_at q)))))
-        → Writing room at target now2 true stand (merged_phase head (head_at q)) end qs
+        → now2 ≡ wrote now1 r.stand (encode (phase (phase_of new.head))) → Writing room at target now2 (Some new) end qs
     join_write {now1} y z =
         let h = head_length (head_at both) ∙ sym (head_length (head_at s)) in
         record {
           fits = w.fits;
           written = o.done ++ (head_bytes both ++ (event_bytes s ++ event_bytes q));
           size = w.size + event_size * many q;
-          put = amended o.done (head_bytes s) (event_bytes s) so_far y join_room o.stands (head_bytes both) h (z ∙ ap (λ (x : Phase). wrote now1 stand (encode (phase (phase_of x)))) both_says);
+          put =
+              amended o.done (head_bytes s) (event_bytes s) so_far y join_room o.stands (head_bytes both) h
+              (z ∙ ap (λ (x : Phase). wrote now1 r.stand (encode (phase (phase_of x)))) both_says);
           made =
               record {
                 last = both;
@@ -219,7 +206,7 @@ module _ {room : List ℕ} {at : ℕ} {target now : List ℕ} {stand : ℕ} {hea
               };
         }
 
-    join_goes : Goes room at target now stand head place q qs true
+    join_goes : Goes room at target now place q qs (Some r)
     join_goes =
         record {
           begin = omega (arith, join_room, w.put.kept);
@@ -229,22 +216,22 @@ module _ {room : List ℕ} {at : ℕ} {target now : List ℕ} {stand : ℕ} {hea
           next = join_write;
         }
 
-  pub goes : (joining begun : Bool) → many q ≤ most_in_span → Writing room at target now begun stand head place (q ∷ qs) → joining ≡ joins_next (shows begun head) q
-      → Goes room at target now stand head place q qs joining
-  goes false begun l w e = own_goes l begun w (sym e)
-  goes true false l w e = absurd (let y : ◌≡◌ {A = ℕ} 0 1 = cc in omega arith)
-  goes true true l w e = join_goes l w (sym e)
+  pub goes : (b : Bool) (last : Option Written) → many q ≤ most_in_span → Writing room at target now last place (q ∷ qs) → joins_next (shows last) q ≡ b
+      → Goes room at target now place q qs (cond b last None)
+  goes false last l w e = own_goes l last w e
+  goes true None l w e = absurd (let y : ◌≡◌ {A = ℕ} 0 1 = cc in omega arith)
+  goes true (Some r) l w e = join_goes l w e
 
 -- ---- nothing is left
 
-module _ {room : List ℕ} {at : ℕ} {target now : List ℕ} {stand : ℕ} {head : Phase} {place : ℕ} where
-  all_put : {begun : Bool} (w : Writing room at target now begun stand head place []) → target ≡ w.written → Put room at target (length target) now place
+module _ {room : List ℕ} {at : ℕ} {target now : List ℕ} {place : ℕ} where
+  all_put : {last : Option Written} (w : Writing room at target now last place []) → target ≡ w.written → Put room at target (length target) now place
   all_put w e = rw (e, w.put.many) w.put
 
-  pub write_end : (begun : Bool) → Writing room at target now begun stand head place [] → Put room at target (length target) now place
+  pub write_end : (last : Option Written) → Writing room at target now last place [] → Put room at target (length target) now place
   unfolding joined join_from phase_forms encode_all
-  write_end false w = all_put w (w.made.rest ∙ sym w.made.nothing)
-  write_end true w =
+  write_end None w = all_put w (w.made.rest ∙ sym w.made.nothing)
+  write_end (Some r) w =
       let o = w.made in
       let s = o.last in
       all_put w (o.rest ∙ ap (λ (x : List ℕ). o.done ++ x) (bytes_cons s [] ∙ ap (λ (x : List ℕ). head_bytes s ++ x) (append-nil (event_bytes s))) ∙ sym o.parts)

@@ -1,5 +1,6 @@
 -- Bytes written behind others: a record and what follows it, and a record that is amended. Assumes nothing.
 use mathlib.Core.Path.{◌≡◌, refl, sym, ap, ◌∙◌}
+use mathlib.Core.Bool.{true, false}
 use mathlib.Core.List.{List, ◌++◌, append_assoc}
 use Prim.Native.Nat.{ℕ, ◌+◌}
 use native.Mathlib.Omega.{arith}
@@ -9,8 +10,10 @@ use Rattle.wire.proofs.Writing.{wrote_in_front, wrote_over, wrote_length, also}
 use Rattle.answer.specs.Amending.{front, Amends}
 use Rattle.answer.specs.Forms.{phase, encode, phase_size, to_place}
 use Rattle.answer.specs.Meaning.{phase_of}
-use Rattle.answer.specs.declared.Phase.{Phase}
+use Rattle.std.specs.Prelude.{Option, None, Some, is_some}
 use Rattle.answer.proofs.Amended.{begun_amends, begun_put}
+use Rattle.walk_records.specs.Private.{Recorded}
+use Rattle.walk_records.specs.declared.put.Written.{Written}
 
 -- a record behind what was written: what follows it is written first
 pub record_behind : {room vs now : List ℕ} {at k place : ℕ} → Put room at vs k now place
@@ -49,12 +52,18 @@ module _ {room now : List ℕ} {at k place : ℕ} (done h behind : List ℕ) (w 
 -- ---- a record's front
 
 -- it stands in t, and the whole that is written over it is written over s
-pub record Fronted (s t : List ℕ) (stand : ℕ) (head : Phase) : Type 0 where
-  pub ready : Amends t stand head
-  pub whole : {u : List ℕ} {r : ℕ} → Put t stand (encode (phase (phase_of head))) phase_size u r → Put s stand (encode (phase (phase_of head))) phase_size u r
+pub record Fronted (s t : List ℕ) (r : Written) : Type 0 where
+  pub ready : Amends t r.stand r.head
+  pub whole : {u : List ℕ} {p : ℕ} → Put t r.stand (encode (phase (phase_of r.head))) phase_size u p
+      → Put s r.stand (encode (phase (phase_of r.head))) phase_size u p
 
-pub begun : {s t : List ℕ} {stand r : ℕ} (head : Phase) → Inside stand phase_size s → Put s stand (front (phase_of head)) to_place.from t r → Fronted s t stand head
-begun head i p = record { ready = begun_amends head p i; whole = λ w. begun_put head p w i }
+-- begun where the record joins none
+pub begun : {s t : List ℕ} (joined : Option Written) (r : Written) {p : ℕ} → is_some joined ≡ false → Recorded s joined r
+    → Put s r.stand (front (phase_of r.head)) to_place.from t p → Fronted s t r
+begun None r e i p = record { ready = begun_amends r.head p i; whole = λ w. begun_put r.head p w i }
+begun (Some o) r e i p = absurd (cc)
 
-pub stays : {s t : List ℕ} {stand : ℕ} {head : Phase} → Amends s stand head → t ≡ s → Fronted s t stand head
-stays a e = rw e (record { ready = a; whole = λ w. w })
+-- there since the span before
+pub stays : {s t : List ℕ} (joined : Option Written) (r : Written) → is_some joined ≡ true → Recorded s joined r → t ≡ s → Fronted s t r
+stays None r e a i = absurd (cc)
+stays (Some o) r e a i = rw i (record { ready = a; whole = λ w. w })

@@ -21,7 +21,7 @@ use Rattle.joining.specs.Joining.{phases}
 use Rattle.joining.proofs.Laws.{many, head_at, last_at, joins_next, same_last}
 use Rattle.walk_records.specs.Walked.{phase_forms}
 use Rattle.joining.specs.declared.Last.{Last}
-use Rattle.joining.specs.declared.Last.TheVariants.{Nothing}
+use Rattle.std.specs.Prelude.{Option, None}
 
 -- ---- the bytes of a span
 
@@ -66,7 +66,7 @@ both_events s q = events_append s.body.events q.body.events
 
 -- ---- the first pass: what the spans that are left add
 
-unfoldable pub more : Last → List (Span Shown) → ℕ
+unfoldable pub more : Option Last → List (Span Shown) → ℕ
 more last [] = 0
 more last (q ∷ qs) = cond (joins_next last q) 0 phase_size + event_size * many q + more (last_at q) qs
 
@@ -80,13 +80,13 @@ from_more s (q ∷ qs) = go (joins phases s q) refl (from_more (joined_span phas
         → length (bytes_of (join_from phases q qs)) ≡ phase_size + event_size * many q + more (last_at q) qs
         → length (bytes_of (cond b (join_from phases (joined_span phases s q) qs) (s ∷ join_from phases q qs))) ≡ phase_size + event_size * many s + (cond b 0 phase_size + event_size * many q + more (last_at q) qs)
     go true e one two =
-        let l = ap (λ (x : Last). more x qs) (same_last s q e) in
+        let l = ap (λ (x : Option Last). more x qs) (same_last s q e) in
         let m = length-append s.body.events q.body.events in
         omega arith
     go false e one two = let l = cons_length s (join_from phases q qs) in omega arith
 
 -- of all
-all_more : (qs : List (Span Shown)) → length (bytes_of (joined phases qs)) ≡ more Nothing qs
+all_more : (qs : List (Span Shown)) → length (bytes_of (joined phases qs)) ≡ more None qs
 unfolding joined more phase_forms encode_all
 all_more [] = refl
 all_more (q ∷ qs) = from_more q qs ∙ omega arith
@@ -98,14 +98,14 @@ span_most = phase_size + event_size * most_in_span
 abbrev pub spans_most : ℕ
 spans_most = base.points * turns
 
-pub record Sizing (total : ℕ) (last : Last) (size : ℕ) (left : List (Span Shown)) : Type 0 where
+pub record Sizing (total : ℕ) (last : Option Last) (size : ℕ) (left : List (Span Shown)) : Type 0 where
   pub same : size + more last left ≡ total
   pub few : size + span_most * length left ≤ span_most * spans_most
 
-pub size_start : (qs : List (Span Shown)) → length qs ≤ spans_most → Sizing (length (bytes_of (joined phases qs))) Nothing 0 qs
+pub size_start : (qs : List (Span Shown)) → length qs ≤ spans_most → Sizing (length (bytes_of (joined phases qs))) None 0 qs
 size_start qs h = record { same = omega (arith, all_more qs); few = omega arith }
 
-pub size_one : {total size size' : ℕ} {last last' : Last} {q : Span Shown} {qs : List (Span Shown)} → Sizing total last size (q ∷ qs) → many q ≤ most_in_span
+pub size_one : {total size size' : ℕ} {last last' : Option Last} {q : Span Shown} {qs : List (Span Shown)} → Sizing total last size (q ∷ qs) → many q ≤ most_in_span
     → size' ≡ size + cond (joins_next last q) 0 phase_size + event_size * many q → last' ≡ last_at q → Sizing total last' size' qs
 unfolding more
 size_one {total} {size} {size'} {last} {last'} {q} {qs} w h e i =
@@ -116,6 +116,6 @@ size_one {total} {size} {size'} {last} {last'} {q} {qs} w h e i =
     go true f g = omega arith
     go false f g = omega arith
 
-pub size_end : {total size : ℕ} {last : Last} {left : List (Span Shown)} → Sizing total last size left → left ≡ [] → (size ≡ total) × (size < 2 ^ 32)
+pub size_end : {total size : ℕ} {last : Option Last} {left : List (Span Shown)} → Sizing total last size left → left ≡ [] → (size ≡ total) × (size < 2 ^ 32)
 unfolding more
 size_end {last = last} w e = (let s = w.same in let n = ap (more last) e in omega arith, let f = w.few in omega arith)

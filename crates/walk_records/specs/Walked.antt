@@ -1,12 +1,11 @@
 -- A walk joined, and as records. Assumes nothing.
 use Rattle.std.specs.Prelude.{ℕ, List, [], ◌∷◌, ◌++◌, map}
-use Rattle.std.proofs.Math.Option.{Option}
-use Rattle.zone.specs.Zone.{Zone, zone_of}
-use Rattle.records.specs.Records.{Rule, Event, rule_at, event_at}
+use Rattle.std.specs.Prelude.{Option}
+use Rattle.zone.specs.Zone.{Zone}
+use Rattle.records.specs.Records.{Rule, Event}
 use Rattle.spans.specs.Spans.{Span, joined}
 use Rattle.spans.specs.Timeline.{walk, turns}
-use Rattle.day.specs.Governing.{governing_rule}
-use Rattle.day.specs.Days.{Held, venue_by}
+use Rattle.day.specs.Days.{Values, Held, venue_by}
 use Rattle.answer.specs.Forms.{Form}
 use Rattle.span_records.specs.Shown.{Shown, shown, shown_forms}
 use Rattle.joining.specs.Joining.{phases}
@@ -24,7 +23,6 @@ phase_forms (s ∷ ss) = shown_forms s.from s.to s.body ++ phase_forms ss
 abbrev pub walk_spans : Zone → (ℕ → Option Rule) → List Event → ℕ → ℕ → List (Span Shown)
 walk_spans z g es lo hi = joined phases (map (shows_span z es) (walk (venue_by z g) hi turns lo))
 
--- its records, by places in the book
-abbrev pub walk_forms : List ℕ → ℕ → List ℕ → List ℕ → List ℕ → List ℕ → ℕ → ℕ → List Form
-walk_forms s first ats offsets rules events lo hi =
-    phase_forms (walk_spans (zone_of first ats offsets) (governing_rule (map (rule_at s) rules)) (map (event_at s) events) lo hi)
+-- its records
+abbrev pub walk_forms : Values → ℕ → ℕ → List Form
+walk_forms v lo hi = phase_forms (walk_spans v.zone v.governing v.events lo hi)

@@ -1,190 +1,167 @@
 // The second pass over a walk: it takes the same steps as the first, joins alike, and writes. A span that joins the one before amends its record.
-ghost use Rattle.std.specs.Prelude.{◌+◌, ◌^◌, ◌<◌, ◌≡◌, cond, length};
+ghost use Rattle.std.specs.Prelude.{◌+◌, ◌^◌, ◌<◌, ◌≡◌, length};
 ghost use Rattle.wire.specs.Fields.{Inside, Put, wrote};
-ghost use Rattle.zone.specs.Zone.{zone_of};
-ghost use Rattle.zone.specs.Answers.{Valid};
-ghost use Rattle.venue.specs.Filled.{Ready};
+ghost use Rattle.zone.specs.Clocks.{zone_in};
 ghost use Rattle.walk.specs.Walking.{PieceFits};
-ghost use Rattle.answer.specs.Forms.{phase, encode, encode_all, phase_size};
+ghost use Rattle.answer.specs.Forms.{phase, encode, encode_all};
 ghost use Rattle.answer.specs.Meaning.{phase_of};
-ghost use Rattle.joining.specs.Amending.{merged_phase};
+ghost use Rattle.day.specs.Venues.{values_in};
 ghost use Rattle.walk_records.specs.Walked.{walk_forms};
-ghost use Rattle.walk_records.specs.Private.{Recorded, piece_head};
+ghost use Rattle.walk_records.specs.Private.{piece_head, shows, joined_record, events_place, events_before, told, Recorded};
 
 use answer::{PHASE_SIZE, Phase, amend_phase, begin_phase};
 use day::{DaySegment, NEAR_RULES_LENGTH};
-use joining::{is_joinable, last_of, merged};
+use joining::{Last, is_joinable, merged};
 use span_records::{phase_of, put_events};
-use venue::{point_phase, rule_evidence, rule_uncertainty};
+use venue::{Rule, Venue};
 use walk::{
-    MOST_BOUNDARIES, MOST_TURNS, NextPiece, NextTurn, Piece, after_piece, begin, next_piece,
-    next_turn, segment,
+    MOST_BOUNDARIES, MOST_TURNS, Piece, after_piece, begin, next_piece, next_turn, segment,
 };
-use zone::{Boundary, Instant, Uncertainty, widest};
+use zone::{Boundary, Clock, Instant, Interval, widest};
 
 // The record of a piece, with so many events behind it. Where the piece is clear its uncertainties are the rule's, all three.
-fn head_of(book: &[u8], offset0: u32, ats: &[u64], offsets: &[u32], q: Piece, events: u32) -> Phase
-    requires { Valid offset0 ats.now offsets.now × PieceFits book.now (zone_of offset0 ats.now offsets.now) q }
-    ensures { result ≡ piece_head book.now (zone_of offset0 ats.now offsets.now) q events }
+fn head_of(book: &[u8], clock: &Clock<'_>, q: Piece, events: u32) -> Phase
+    requires { PieceFits book.now (zone_in clock.now) q }
+    ensures { result ≡ piece_head book.now (zone_in clock.now) q events }
 {
-    let from = q.from;
-    let to = q.to;
+    let shown = Interval {
+        start: q.from,
+        end: q.to,
+    };
     if q.clear {
-        let rule = q.rule as usize;
-        let published = rule_uncertainty(book, rule);
-        let start = q.start;
-        let end = q.end;
+        let rule = Rule { book, at: q.rule };
+        let published = rule.uncertainty();
         let g = DaySegment {
             start: Boundary {
-                at: start,
+                at: q.start,
                 uncertainty: published,
             },
             end: Boundary {
-                at: end,
+                at: q.end,
                 uncertainty: published,
             },
-            phase: point_phase(book, rule, q.point),
+            phase: rule.point_phase(q.point),
             rule: q.rule,
         };
-        return phase_of(book, g, published, from, to, events);
+        return phase_of(book, g, published, shown, events);
     }
-    let g = segment(book, offset0, ats, offsets, q);
-    let start = g.start;
-    let end = g.end;
-    let before = start.uncertainty;
-    let behind = end.uncertainty;
-    phase_of(book, g, widest(before, behind), from, to, events)
+    let g = segment(book, clock, q);
+    let whole = widest(g.start.uncertainty, g.end.uncertainty);
+    phase_of(book, g, whole, shown, events)
+}
+
+// A record as it was written: what it says, and where it stands.
+#[derive(Clone, Copy)]
+struct Written {
+    head: Phase,
+    stand: usize,
+}
+
+// What the last record shows, if there is one.
+fn last_of(last: Option<Written>) -> Option<Last>
+    ensures { result ≡ shows last }
+{
+    let head = last?.head;
+    Some(Last {
+        until: head.end,
+        phase: head.phase,
+        evidence: head.evidence,
+    })
+}
+
+// The last record, if a span from `from` on joins it.
+fn joined_record(last: Option<Written>, from: Instant, phase: u8, evidence: u16) -> Option<Written>
+    ensures { result ≡ joined_record last from.0 phase evidence }
+{
+    if is_joinable(last_of(last), from, phase, evidence) {
+        last
+    } else {
+        None
+    }
 }
 
 // Where a span's events go: behind those of the record that it joins, or behind a record of its own.
-fn events_place(joining: bool, place: usize) -> usize
-    requires { place + cond joining 0 phase_size < 2 ^ 64 }
-    ensures { result ≡ cond joining place (place + phase_size) }
+fn events_place(joined: Option<Written>, place: usize) -> usize
+    requires { events_place joined place < 2 ^ 64 }
+    ensures { result ≡ events_place joined place }
 {
-    if joining { place } else { place + PHASE_SIZE }
-}
-
-// Where a span's record stands: where that of the span that it joins does, or behind all others.
-fn record_place(joining: bool, stand: usize, place: usize) -> usize
-    ensures { result ≡ cond joining stand place }
-{
-    if joining { stand } else { place }
-}
-
-// What the record says behind a span: what joined spans say, or the span's own.
-fn told(joining: bool, head: Phase, new: Phase) -> Phase
-    requires { cond joining head.events 0 + new.events < 2 ^ 32 }
-    ensures { result ≡ cond joining (merged_phase head new) new }
-{
-    if joining {
-        return merged(head, new);
+    match joined {
+        Some(_) => place,
+        None => place + PHASE_SIZE,
     }
-    new
+}
+
+// The record behind a span: the one that it joins, with what the span adds, or the span's own, which stands at `place`.
+fn told(joined: Option<Written>, own: Phase, place: usize) -> Written
+    requires { events_before joined + own.events < 2 ^ 32 }
+    ensures { result ≡ told joined own place }
+{
+    match joined {
+        Some(before) => Written {
+            head: merged(before.head, own),
+            stand: before.stand,
+        },
+        None => Written {
+            head: own,
+            stand: place,
+        },
+    }
 }
 
 // Writes the record: where a span has joined it, only what that alters.
-fn put_record(out: &mut [u8], stand: usize, joining: bool, head: Phase)
-    requires { Recorded out.old stand joining head }
-    ensures { out.new ≡ wrote out.old stand (encode (phase (phase_of head))) }
+fn put_record(out: &mut [u8], joined: Option<Written>, new: Written)
+    requires { Recorded out.old joined new }
+    ensures { out.new ≡ wrote out.old new.stand (encode (phase (phase_of new.head))) }
 {
-    if !joining {
-        begin_phase(out, stand, head);
+    if joined.is_none() {
+        begin_phase(out, new.stand, new.head);
     }
-    amend_phase(out, stand, head);
+    amend_phase(out, new.stand, new.head);
 }
 
-// No record yet.
-fn blank() -> Phase
-    ensures { result.events ≡ 0 }
-{
-    let nowhere = Boundary {
-        at: Instant(0),
-        uncertainty: Uncertainty::Exact,
-    };
-    Phase {
-        start: Instant(0),
-        end: Instant(0),
-        phase: 0,
-        code: 0,
-        label: 0,
-        evidence: 0,
-        derived: 0,
-        from: nowhere,
-        to: nowhere,
-        whole: Uncertainty::Exact,
-        events: 0,
-    }
-}
-
-// Writes the walk from `lo` to before `hi`, from `at` on. Answers the place behind it.
-pub fn put_walk(
-    book: &[u8],
-    offset0: u32,
-    ats: &[u64],
-    offsets: &[u32],
-    rules: &[u32],
-    events: &[u32],
-    lo: Instant,
-    hi: Instant,
-    out: &mut [u8],
-    at: usize,
-) -> usize
-    requires { Ready book.now offset0 ats.now offsets.now rules.now events.now
-        × Inside at (length (encode_all (walk_forms book.now offset0 ats.now offsets.now rules.now events.now lo.0 hi.0))) out.old }
+// Writes the walk over an interval, from `at` on. Answers the place behind it.
+pub fn put_walk(venue: &Venue<'_>, window: Interval, out: &mut [u8], at: usize) -> usize
+    requires { Inside at (length (encode_all (walk_forms (values_in venue.now) window.start.0 window.end.0))) out.old }
     ensures { Put out.old at
-        (encode_all (walk_forms book.now offset0 ats.now offsets.now rules.now events.now lo.0 hi.0))
-        (length (encode_all
-        (walk_forms book.now offset0 ats.now offsets.now rules.now events.now lo.0 hi.0)))
+        (encode_all (walk_forms (values_in venue.now) window.start.0 window.end.0))
+        (length (encode_all (walk_forms (values_in venue.now) window.start.0 window.end.0)))
         out.new result }
 {
+    let book = venue.rules.book;
+    let hi = window.end;
     let mut kept = [0u32; NEAR_RULES_LENGTH];
     let mut edges = [0u64; MOST_BOUNDARIES];
-    let opening = begin(
-        book,
-        offset0,
-        ats,
-        offsets,
-        rules,
-        &mut kept,
-        &mut edges,
-        MOST_TURNS - 1,
-        lo,
-    );
+    let opening = begin(venue, &mut kept, &mut edges, MOST_TURNS - 1, window.start);
     // A copy, whose fields the loop can hold in registers: the place that `begin` fills stays in memory.
     let mut w = opening;
-    let mut head = blank();
-    let mut begun = false;
-    let mut stand = at;
+    let mut last: Option<Written> = None;
     let mut place = at;
     'pieces: loop {
         match next_piece(book, &edges, hi, w) {
-            NextPiece::Next(q) => {
-                let from = q.from;
-                let start = q.start;
-                let end = q.end;
-                let rule = q.rule as usize;
-                let until = head.end;
-                let joining = is_joinable(
-                    last_of(begun, until, head.phase, head.evidence),
-                    from,
-                    point_phase(book, rule, q.point),
-                    rule_evidence(book, rule),
+            Some(q) => {
+                let span = Interval {
+                    start: q.start,
+                    end: q.end,
+                };
+                let rule = Rule { book, at: q.rule };
+                let joined = joined_record(
+                    last,
+                    q.from,
+                    rule.point_phase(q.point),
+                    rule.evidence(),
                 );
-                let front = events_place(joining, place);
-                let trail = put_events(book, offset0, ats, offsets, events, start, end, out, front);
-                let new = head_of(book, offset0, ats, offsets, q, trail.count as u32);
-                stand = record_place(joining, stand, place);
-                head = told(joining, head, new);
-                put_record(out, stand, joining, head);
-                begun = true;
+                let front = events_place(joined, place);
+                let trail = put_events(&venue.clock, &venue.events, span, out, front);
+                let own = head_of(book, &venue.clock, q, trail.count as u32);
+                let new = told(joined, own, place);
+                put_record(out, joined, new);
+                last = Some(new);
                 place = trail.behind;
                 w = after_piece(q);
             }
-            NextPiece::Done => match next_turn(
-                book, offset0, ats, offsets, rules, &mut kept, &mut edges, hi, w,
-            ) {
-                NextTurn::Done => break 'pieces,
-                NextTurn::On(next) => {
+            None => match next_turn(venue, &mut kept, &mut edges, hi, w) {
+                None => break 'pieces,
+                Some(next) => {
                     w = next;
                 }
             },

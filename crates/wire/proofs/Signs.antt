@@ -1,6 +1,6 @@
 -- Which integers placed numbers and signed fields mean, over the width. Assumes nothing.
 use Rattle.std.proofs.Common.{◌≡◌, ℕ, suc, ◌+◌, ◌-◌, ◌%◌, ◌^◌, ◌<◌, ◌≤◌, Bool, true, false, ◌&&◌, ltb, leb, ℤ, pos, negsuc, ◌+ℤ◌, sym, refl, ap, ◌∙◌, ap₂, mod-eq_of_lt, lt_of_not-le, arith, SFits, to_z, of_z, ltb-false, ltb-true, le-ltb, lt-ltb, le-leb, leb-true}
-use mathlib.Core.Option.{none, some}
+use Rattle.std.specs.Prelude.{None, Some}
 use native.Mathlib.Nat.{mod-eq-sub-mod}
 use native.Mathlib.Decide.{dec_lt, dec_le}
 use borrow.Author.Tests.{lt-leb}
@@ -199,41 +199,18 @@ module _ (w : Width) where
           let l = ltb-false x (half w) e in
           ap (turned w) (turned_high x l h) ∙ turned_low (x - half w) (omega (arith, pow-bits w)) ∙ omega arith
 
-  -- ---- an integer by its sign, as the code takes it apart
+  -- an integer's bits, turned, are its placed number
+  pub cast_turned : (z : ℤ) → SFits w z → turned w (of_z w (to_z w (of_z w z))) ≡ placed w z
+  cast_turned z f =
+      ap (λ (y : ℤ). turned w (of_z w y)) (to_z-of_z w z f)
+      ∙ ap (turned w) (sym (turned_placed z f))
+      ∙ turned_turned (placed w z) (placed_below z f)
 
-  pub negative : (z : ℤ) → SFits w z → lt_z (to_z w (of_z w z)) (pos 0) ≡ true
-      → (n : ℕ) × (to_z w (2 ^ bits w - 1 - of_z w z) ≡ pos n) × (n < half w) × (placed w z ≡ half w - suc n)
-  unfolding placed
-  negative (pos a) f e =
-      let q : ltb a 0 ≡ true = rw (to_z-of_z w (pos a) f) at e in
-      absurd (omega (arith, ltb-true a 0 q))
-  negative (negsuc n) f e =
-      let h : n < half w = f.sfits in
-      let z : 2 ^ bits w - 1 - (2 ^ bits w - suc n) ≡ n = omega (arith, pow-bits w) in
-      (n, rw z (to_z_pos w n h), h, refl)
-
-  pub natural : (z : ℤ) → SFits w z → lt_z (to_z w (of_z w z)) (pos 0) ≡ false
-      → (n : ℕ) × (to_z w (of_z w z) ≡ pos n) × (n < half w) × (placed w z ≡ n + half w)
-  unfolding placed
-  natural (pos a) f e = (a, to_z-of_z w (pos a) f, f.sfits, refl)
-  natural (negsuc n) f e =
-      let q : true ≡ false = rw (to_z-of_z w (negsuc n) f) at e in
-      absurd (let z : ◌≡◌ {A = ℕ} 0 1 = cc in omega arith)
-
-  -- ---- the integer that a placed number means, as the code makes it
-
-  pub made_negative : (x : ℕ) → x < half w → to_z w (2 ^ bits w - 1 - (half w - 1 - x)) ≡ meant w x
-  unfolding meant
-  made_negative x h =
-      let l : half w ≤ 2 ^ bits w - 1 - (half w - 1 - x) = omega (arith, pow-bits w) in
-      let z : 2 ^ bits w - suc (2 ^ bits w - 1 - (half w - 1 - x)) ≡ half w - suc x = omega (arith, pow-bits w) in
-      simp (le-ltb _ _ l, lt-ltb x (half w) h, z)
-
-  pub made_natural : (x : ℕ) → half w ≤ x → x < 2 ^ bits w → to_z w (x - half w) ≡ meant w x
-  unfolding meant
-  made_natural x h b =
-      let l : x - half w < half w = omega (arith, pow-bits w) in
-      simp (lt-ltb (x - half w) (half w) l, le-ltb x (half w) h)
+  -- and a placed number, turned, is the bits of the integer that it means
+  pub turned_cast : (x : ℕ) → x < 2 ^ bits w → to_z w (turned w x) ≡ meant w x
+  turned_cast x h =
+      let l : turned w x < 2 ^ bits w = omega arith in
+      sym (turned_meant (turned w x) l) ∙ ap (meant w) (turned_turned x h)
 
   -- ---- numbers counted from an origin e, as days and instants are: d means d - e, and is placed by adding what is left of the half
 
@@ -258,27 +235,27 @@ module _ (w : Width) where
           ap₂ (λ (a b : ℤ). le_z a (meant w p) && le_z (meant w p) b) (counted lo) (counted hi)
           ∙ ap₂ ◌&&◌ (order_le (lo + origin) p) (order_le p (hi + origin))
 
-      pub between_yes : (p : ℕ) → lo + origin ≤ p → p ≤ hi + origin → between (sub_ℕ lo e) (sub_ℕ hi e) (meant w p) ≡ some (meant w p)
+      pub between_yes : (p : ℕ) → lo + origin ≤ p → p ≤ hi + origin → between (sub_ℕ lo e) (sub_ℕ hi e) (meant w p) ≡ Some (meant w p)
       unfolding between
       between_yes p a b = rw (tests p) (simp (le-leb (lo + origin) p a, le-leb p (hi + origin) b))
 
-      pub between_low : (p : ℕ) → p < lo + origin → between (sub_ℕ lo e) (sub_ℕ hi e) (meant w p) ≡ none
+      pub between_low : (p : ℕ) → p < lo + origin → between (sub_ℕ lo e) (sub_ℕ hi e) (meant w p) ≡ None
       unfolding between
       between_low p h = rw (tests p) (simp (lt-leb (lo + origin) p h))
 
-      pub between_high : (p : ℕ) → hi + origin < p → between (sub_ℕ lo e) (sub_ℕ hi e) (meant w p) ≡ none
+      pub between_high : (p : ℕ) → hi + origin < p → between (sub_ℕ lo e) (sub_ℕ hi e) (meant w p) ≡ None
       unfolding between
       between_high p h = rw (tests p) (simp (lt-leb p (hi + origin) h, and_no))
 
       -- a number that was found means what was asked for, and lies from lo to hi
-      pub between_found : (d : ℕ) (n : ℤ) → some (sub_ℕ d e) ≡ between (sub_ℕ lo e) (sub_ℕ hi e) n → (sub_ℕ d e ≡ n) × (lo ≤ d) × (d ≤ hi)
+      pub between_found : (d : ℕ) (n : ℤ) → Some (sub_ℕ d e) ≡ between (sub_ℕ lo e) (sub_ℕ hi e) n → (sub_ℕ d e ≡ n) × (lo ≤ d) × (d ≤ hi)
       unfolding between
       between_found d n i = go (le_z (sub_ℕ lo e) n && le_z n (sub_ℕ hi e)) refl
         where
           go : (b : Bool) → (le_z (sub_ℕ lo e) n && le_z n (sub_ℕ hi e)) ≡ b → (sub_ℕ d e ≡ n) × (lo ≤ d) × (d ≤ hi)
-          go false j = absurd (let h : some (sub_ℕ d e) ≡ none = rw j at i in let z : ◌≡◌ {A = ℕ} 0 1 = cc in omega arith)
+          go false j = absurd (let h : Some (sub_ℕ d e) ≡ None = rw j at i in let z : ◌≡◌ {A = ℕ} 0 1 = cc in omega arith)
           go true j =
-              let h : some (sub_ℕ d e) ≡ some n = rw j at i in
+              let h : Some (sub_ℕ d e) ≡ Some n = rw j at i in
               let is : sub_ℕ d e ≡ n = cc in
               let p = d + origin in
               let same : meant w p ≡ n = sym (counted d) ∙ is in

@@ -1,6 +1,6 @@
 -- Signed numbers as numbers that are never negative: each plus half of its width's range. Assumes nothing.
 use Rattle.std.specs.Prelude.{ℕ, suc, ◌+◌, ◌-◌, ◌%◌, ◌^◌, cond, ◌&&◌, ℤ, pos, negsuc, int_le}
-use Rattle.std.proofs.Math.Option.{Option, none, some}
+use Rattle.std.specs.Prelude.{Option, None, Some}
 use Rattle.std.proofs.Math.IntN.{sub_ℕ}
 use Rattle.std.specs.Int.{Width}
 use mir.Val.{bits, hbits}
@@ -32,4 +32,4 @@ signed w x = meant w (turned w x)
 
 -- n, if it lies from lo to hi
 unfoldable pub between : ℤ → ℤ → ℤ → Option ℤ
-between lo hi n = cond (int_le lo n && int_le n hi) (some n) none
+between lo hi n = cond (int_le lo n && int_le n hi) (Some n) None

@@ -81,7 +81,7 @@ module _ {z : Zone} {d a b first : ℕ} {ats os : List ℕ} (ok : Valid first at
         n.same ∙ ap (λ (xs : List ℕ). reads_changes z d a b (changes_of xs (drop k os))) (ap (λ (m : ℕ). drop m ats) j ∙ drop-length ats)
 
     module _ (h : k < length ats) where
-      pub ahead_at : a < get_or ats k 0
+      ahead_at : a < get_or ats k 0
       ahead_at = begins_at (suc a) k ats h n.next
 
       pub ahead_late : b ≤ get_or ats k 0 → reads_changes z d a b (changes_of ats os) ≡ true

@@ -1,5 +1,5 @@
 -- Numbers in use: their instants, and readings of dates and times. Assumes nothing.
-use Rattle.std.proofs.Common.{◌≡◌, ℕ, ◌+◌, ◌-◌, ◌*◌, ◌%◌, ◌^◌, ◌<◌, ◌≤◌, Bool, true, false, ltb, List, refl, ap, ◌∙◌, arith, lit≤, w64, of_z, ltb-false, ltb-true}
+use Rattle.std.proofs.Common.{◌≡◌, ℕ, ◌+◌, ◌-◌, ◌*◌, ◌^◌, ◌<◌, ◌≤◌, List, ap, ◌∙◌, arith, lit≤, w64}
 use Rattle.wire.specs.Signs.{meant, half}
 use Rattle.wire.proofs.Signs.{origin, counted, counted_once, since_meant}
 use Rattle.calendar.specs.Answers.{last_day, zero_day}
@@ -26,14 +26,6 @@ second_meant p = ap (λ (i : ℕ). i * second_ns) (since_meant w64 (zero_day * 8
 
 pub number_once : (s t : ℕ) → instant_number s ≡ instant_number t → s ≡ t
 number_once s t e = counted_once w64 (zero_day * day_ns) (lit≤ tt) s t e
-
--- an instant's number as the bits of a field
-pub bits_number : (t : ℕ) → t < 2 ^ 64 → (t + (2 ^ 64 - zero_day * day_ns)) % 2 ^ 64 ≡ of_z w64 (instant_number t)
-bits_number t h = go (ltb t (zero_day * day_ns)) refl
-  where
-    go : (b : Bool) → ltb t (zero_day * day_ns) ≡ b → (t + (2 ^ 64 - zero_day * day_ns)) % 2 ^ 64 ≡ of_z w64 (instant_number t)
-    go true e = let l = ltb-true t (zero_day * day_ns) e in simp e (omega arith)
-    go false e = let l = ltb-false t (zero_day * day_ns) e in simp e (omega arith)
 
 -- ---- dates and times
 

@@ -1,6 +1,5 @@
 -- The transitions that have passed, as the code finds them, and what it makes of them. Assumes nothing.
-use Rattle.std.proofs.Common.{◌≡◌, ℕ, zero, suc, ◌+◌, ◌-◌, ◌*◌, ◌^◌, ◌<◌, ◌≤◌, true, ◌&&◌, ltb, leb, List, [], ◌∷◌, length, get_or, sym, refl, ◌∙◌, subst, ap₂, ⊎_elim, le_refl, le_of_suc-le-suc, not-suc-le-zero, mul-le-mul, eq-or-lt_of_le, arith, ltb-true, leb-true}
-use Rattle.wire.proofs.Signs.{and_true}
+use Rattle.std.proofs.Common.{◌≡◌, ℕ, zero, suc, ◌+◌, ◌-◌, ◌*◌, ◌^◌, ◌<◌, ◌≤◌, List, [], ◌∷◌, length, get_or, sym, refl, ◌∙◌, ap₂, ⊎_elim, le_refl, le_of_suc-le-suc, not-suc-le-zero, eq-or-lt_of_le, arith}
 use lib.ListN.{get_or-eq_default}
 use Rattle.zone.specs.Units.{most_offset, most_offset_ns}
 use Rattle.zone.specs.Zone.{Zone, zone_of, offset_at, instant_by, resolve}
@@ -42,22 +41,6 @@ pub between_all : (ats : List ℕ) (t : ℕ) → t < 2 ^ 64 → Between ats t 0 
 between_all ats t h =
     let past = get_or-eq_default ats (2 ^ 64) (le_refl (length ats)) in
     record { order = omega arith; most = omega arith; last = omega arith; next = rw past h }
-
-pub between_one : (ats : List ℕ) (t k last next : ℕ) → k < length ats → last ≡ get_or (0 ∷ ats) k 0
-    → next ≡ get_or ats (k + 1) 18446744073709551615
-    → (leb last t && ltb t next) ≡ true → Between ats t k (k + 1)
-between_one ats t k last next h e f g =
-    let both = and_true (leb last t) (ltb t next) g in
-    record {
-      order = omega arith;
-      most = omega arith;
-      last = subst (λ (x : ℕ). x ≤ t) e (leb-true last t both.0);
-      next = next_far ats (k + 1) t (subst (λ (x : ℕ). t < x) f (ltb-true t next both.1));
-    }
-
--- the guess's product is small
-pub even_fits : (g n : ℕ) → g ≤ 4294967296 → n ≤ 4096 → g * n < 2 ^ 64
-even_fits g n h i = let m = mul-le-mul h i in omega (arith, m)
 
 -- ---- the same number has passed until the next transition, and one more from there on
 

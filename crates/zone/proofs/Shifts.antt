@@ -1,5 +1,6 @@
 -- Where no transition is near, reading and converting are shifts by one offset. Assumes nothing.
 use Rattle.std.proofs.Common.{◌≡◌, ℕ, zero, suc, ◌+◌, ◌-◌, ◌*◌, ◌/◌, ◌^◌, ◌<◌, ◌≤◌, Bool, true, false, cond, not, ◌&&◌, ltb, leb, List, [], ◌∷◌, length, get_or, sym, refl, ap, ◌∙◌, subst, le_of_suc-le-suc, not-suc-le-zero, arith, le-ltb, lt-ltb, le-leb, leb-true}
+use Rattle.std.specs.Prelude.{Option, None, Some}
 use native.Mathlib.Nat.{suc_inj}
 use native.Mathlib.Decide.{dec_le}
 use borrow.Author.Tests.{lt-leb}
@@ -10,10 +11,8 @@ use Rattle.zone.specs.Answers.{After, Spaced, Valid, boundary, boundary_at}
 use Rattle.zone.specs.Private.{Passed}
 use Rattle.zone.specs.Steady.{margin_ns, first_steady, last_steady, none_within, steady_of, day_by, midnight_by, OnWall, DayOnWall}
 use Rattle.zone.specs.declared.Resolution.{Resolution}
+use Rattle.zone.specs.declared.Resolution.TheVariants.{Clear}
 use Rattle.zone.specs.declared.Uncertainty.{Uncertainty}
-use Rattle.zone.specs.declared.steady.Steady.{Steady}
-use Rattle.zone.specs.declared.steady.Steady.TheVariants.{No, By}
-use Rattle.zone.proofs.Boundaries.{boundary_of}
 use Rattle.zone.proofs.Offsets.{first_least, passed_rest, offset_most}
 use Rattle.zone.proofs.Readings.{resolve_steady}
 
@@ -63,22 +62,22 @@ next_near (x ∷ ats) zero b h i = (omega arith, h)
 next_near (x ∷ ats) (suc k) b h i = let on = next_near ats k b h i in (omega (arith, on.0), on.1)
 
 -- what the code answers
-pub steady_early : (z : Zone) (from to : ℕ) → from < first_steady → steady_of z from to ≡ No
+pub steady_early : (z : Zone) (from to : ℕ) → from < first_steady → steady_of z from to ≡ None
 unfolding steady_of
 steady_early z from to h = simp (lt-leb first_steady from h)
 
-pub steady_late : (z : Zone) (from to : ℕ) → first_steady ≤ from → last_steady < to → steady_of z from to ≡ No
+pub steady_late : (z : Zone) (from to : ℕ) → first_steady ≤ from → last_steady < to → steady_of z from to ≡ None
 unfolding steady_of
 steady_late z from to g h = simp (le-leb first_steady from g, lt-leb to last_steady h)
 
 pub steady_not : (z : Zone) (from to : ℕ) → first_steady ≤ from → to ≤ last_steady
-    → none_within (from - margin_ns) (to + margin_ns) z.changes ≡ false → steady_of z from to ≡ No
+    → none_within (from - margin_ns) (to + margin_ns) z.changes ≡ false → steady_of z from to ≡ None
 unfolding steady_of
 steady_not z from to g h e = simp (le-leb first_steady from g, le-leb to last_steady h, e)
 
 pub steady_by : (z : Zone) (from to o : ℕ) → first_steady ≤ from → to ≤ last_steady
     → none_within (from - margin_ns) (to + margin_ns) z.changes ≡ true
-    → offset_at z (from - margin_ns) ≡ o → steady_of z from to ≡ By o
+    → offset_at z (from - margin_ns) ≡ o → steady_of z from to ≡ Some o
 unfolding steady_of
 steady_by z from to o g h e i = simp (le-leb first_steady from g, le-leb to last_steady h, e, i)
 
@@ -108,20 +107,20 @@ pub record SteadyOver (z : Zone) (from to o : ℕ) : Type 0 where
   pub late : to ≤ last_steady
   pub same : (t : ℕ) → from ≤ t + margin_ns → t ≤ to + margin_ns → offset_at z t ≡ o
 
-abbrev IsNo : Steady → Type 0
-IsNo No = Unit {0}
-IsNo (By o) = ⊥
+abbrev IsNone : Option ℕ → Type 0
+IsNone None = Unit {0}
+IsNone (Some o) = ⊥
 
-not_by : (o : ℕ) → No ≡ By o → ⊥
-not_by o e = subst IsNo e tt
+not_some : (o : ℕ) → None ≡ Some o → ⊥
+not_some o e = subst IsNone e tt
 
-pub steady_over : (z : Zone) (from to o : ℕ) → from ≤ to → steady_of z from to ≡ By o → SteadyOver z from to o
+pub steady_over : (z : Zone) (from to o : ℕ) → from ≤ to → steady_of z from to ≡ Some o → SteadyOver z from to o
 unfolding steady_of
 steady_over z from to o h e =
     go (leb first_steady from) (leb to last_steady) (none_within (from - margin_ns) (to + margin_ns) z.changes) refl refl refl e
   where
     go : (p q n : Bool) → leb first_steady from ≡ p → leb to last_steady ≡ q → none_within (from - margin_ns) (to + margin_ns) z.changes ≡ n
-        → cond (p && q) (cond n (By (offset_at z (from - margin_ns))) No) No ≡ By o → SteadyOver z from to o
+        → cond (p && q) (cond n (Some (offset_at z (from - margin_ns))) None) None ≡ Some o → SteadyOver z from to o
     go true true true i j k m =
         let early = leb-true first_steady from i in
         let is : offset_at z (from - margin_ns) ≡ o = cc in
@@ -130,9 +129,9 @@ steady_over z from to o h e =
           late = leb-true to last_steady j;
           same = λ t a b. stays z.first (from - margin_ns) (to + margin_ns) t z.changes k (omega arith) b ∙ is;
         }
-    go true true false i j k m = absurd (not_by o m)
-    go true false n i j k m = absurd (not_by o m)
-    go false q n i j k m = absurd (not_by o m)
+    go true true false i j k m = absurd (not_some o m)
+    go true false n i j k m = absurd (not_some o m)
+    go false q n i j k m = absurd (not_some o m)
 
 -- dates of such instants
 day_low : (o t d : ℕ) → o ≤ 2 * most_offset → first_steady ≤ t → day_by o t ≤ d → 3 ≤ d
@@ -170,7 +169,7 @@ near_high : (o to d x t : ℕ) → o ≤ 2 * most_offset → d * day_ns + x ≤ 
 near_high o to d x t h i l k = omega arith
 
 module _ (first : ℕ) (ats os : List ℕ) (ok : Valid first ats os) (from to o : ℕ) (h : from ≤ to)
-    (e : steady_of (zone_of first ats os) from to ≡ By o) where
+    (e : steady_of (zone_of first ats os) from to ≡ Some o) where
   abbrev z : Zone
   z = zone_of first ats os
 
@@ -211,4 +210,4 @@ module _ (first : ℕ) (ats os : List ℕ) (ok : Valid first ats os) (from to o 
       (λ t p q. over.same t (near_low o from d x t most over.early i p) (near_high o to d x t most j (omega (arith, over.early, h)) q)) in
       ap (λ (r : ℕ). boundary (resolve z r) u) (reading_plain d x in_use.1 in_use.2 c)
       ∙ ap (λ (r : Resolution). boundary r u) shifted
-      ∙ boundary_of (w + most_offset_ns - offset_ns o) (midnight_by o d + x) u u (behind_midnight o d x most in_use.1) refl
+      ∙ ap (λ (t : ℕ). boundary (Clear (record { 0 = t })) u) (behind_midnight o d x most in_use.1)

@@ -1,7 +1,7 @@
 -- The first date near which the clock changes: as the code finds it, that before it the offset is one, and that near it the clock does change.
 -- Assumes nothing.
 use Rattle.std.proofs.Common.{◌≡◌, ℕ, zero, suc, ◌+◌, ◌-◌, ◌*◌, ◌/◌, ◌^◌, ◌<◌, ◌≤◌, min, max, true, false, not, ◌&&◌, ltb, leb, List, [], ◌∷◌, length, get_or, sym, refl, ap, ◌∙◌, arith, le-ltb, lt-ltb, le-leb}
-use mathlib.Core.Option.{Option, none, some}
+use Rattle.std.specs.Prelude.{Option, None, Some}
 use native.Mathlib.Nat.{suc_inj}
 use native.Mathlib.Decide.{dec_lt, dec_le}
 use borrow.Author.Tests.{lt-leb}
@@ -19,8 +19,8 @@ use Rattle.zone.proofs.Shifts.{past, between, none_true, stays}
 
 -- where the next one stands, as the code reads it
 abbrev stands_at : Option ℕ → ℕ
-stands_at none = 18446744073709551615
-stands_at (some at) = at
+stands_at None = 18446744073709551615
+stands_at (Some at) = at
 
 next_at : (t k : ℕ) (ats : List ℕ) → Spaced ats → Passed ats t k → get_or ats k 18446744073709551615 ≡ stands_at (next_after t ats)
 unfolding next_after
@@ -39,8 +39,8 @@ stands_later t (x ∷ ats) h = go (dec_lt t x) (stands_later t ats h)
     go (no l) on = rw (le-ltb t x (omega arith)) on
 
 near_read : (d : ℕ) (o : Option ℕ) → d ≤ last_day → max d (min ((stands_at o - 1) / day_ns - 1) (last_day + 1)) ≡ near_from d o
-near_read d none h = omega arith
-near_read d (some at) h = refl
+near_read d None h = omega arith
+near_read d (Some at) h = refl
 
 pub until_early : (ats : List ℕ) (d : ℕ) → d < first_day → d ≡ steady_until ats d
 unfolding steady_until
@@ -56,9 +56,6 @@ until_is ats d low high = simp (le-leb first_day d low, le-leb d last_day high)
 
 module _ (ats : List ℕ) (d k : ℕ) (s : Spaced ats) (low : first_day ≤ d) (high : d ≤ last_day) (p : Passed ats ((d - 1) * day_ns) k)
     {at : ℕ} (e : at ≡ get_or ats k 18446744073709551615) where
-  pub found_later : (d - 1) * day_ns < at
-  found_later = omega (arith, e, next_at ((d - 1) * day_ns) k ats s p, stands_later ((d - 1) * day_ns) ats (omega arith))
-
   pub until_found : max d (min ((at - 1) / day_ns - 1) (last_day + 1)) ≡ steady_until ats d
   until_found =
       ap (λ (x : ℕ). max d (min ((x - 1) / day_ns - 1) (last_day + 1))) (e ∙ next_at ((d - 1) * day_ns) k ats s p)
@@ -69,8 +66,8 @@ module _ (ats : List ℕ) (d k : ℕ) (s : Spaced ats) (low : first_day ≤ d) (
 
 -- the next one, if there is one, stands after b
 abbrev Later : ℕ → Option ℕ → Type 0
-Later b none = Unit {0}
-Later b (some at) = b < at
+Later b None = Unit {0}
+Later b (Some at) = b < at
 
 none_next : (a b : ℕ) (ats os : List ℕ) → Spaced ats → a < 2 ^ 64 → b < 2 ^ 64 → Later b (next_after a ats) → none_within a b (changes_of ats os) ≡ true
 unfolding next_after none_within
@@ -90,8 +87,8 @@ module _ (ats : List ℕ) (d e : ℕ) (from : d ≤ e) (before : e < steady_unti
   far = go (dec_lt d first_day) (dec_le d last_day)
     where
       beyond : (o : Option ℕ) → e < near_from d o → (e ≤ last_day) × Later ((e + 2) * day_ns) o
-      beyond none h = (omega arith, tt)
-      beyond (some at) h = (omega arith, omega arith)
+      beyond None h = (omega arith, tt)
+      beyond (Some at) h = (omega arith, omega arith)
 
       go : Dec (d < first_day) → Dec (d ≤ last_day) → (first_day ≤ e) × (e ≤ last_day) × Later ((e + 2) * day_ns) (next_after ((d - 1) * day_ns) ats)
       go (yes h) q = absurd (omega (arith, until_early ats d h))
@@ -113,16 +110,16 @@ module _ (ats : List ℕ) (d e : ℕ) (from : d ≤ e) (before : e < steady_unti
       stays first a b t (changes_of ats os) (none_next a b ats os ok.spaced (omega (arith, far.1)) (omega (arith, far.1)) far.2) (omega arith) i
 
 -- near that one, if it is of the calendar, the clock does change
-one_within : (a b c at : ℕ) (ats os : List ℕ) → length ats ≡ length os → next_after a ats ≡ some at → b < at → at ≤ c
+one_within : (a b c at : ℕ) (ats os : List ℕ) → length ats ≡ length os → next_after a ats ≡ Some at → b < at → at ≤ c
     → none_within b c (changes_of ats os) ≡ false
 unfolding next_after none_within
 one_within a b c at [] os s e h i = let z : ◌≡◌ {A = ℕ} 0 1 = cc in absurd (omega arith)
 one_within a b c at (x ∷ ats) [] s e h i = absurd (omega arith)
 one_within a b c at (x ∷ ats) (o ∷ os) s e h i = go (dec_lt a x) (λ f. one_within a b c at ats os (suc_inj s) f h i)
   where
-    go : Dec (a < x) → (next_after a ats ≡ some at → none_within b c (changes_of ats os) ≡ false) → none_within b c (changes_of (x ∷ ats) (o ∷ os)) ≡ false
+    go : Dec (a < x) → (next_after a ats ≡ Some at → none_within b c (changes_of ats os) ≡ false) → none_within b c (changes_of (x ∷ ats) (o ∷ os)) ≡ false
     go (yes l) on =
-        let f : some x ≡ some at = rw (lt-ltb a x l) at e in
+        let f : Some x ≡ Some at = rw (lt-ltb a x l) at e in
         let same : x ≡ at = cc in
         between b c x (none_within b c (changes_of ats os)) (omega arith) (omega arith)
     go (no l) on = rw (on (rw (le-ltb a x (omega arith)) at e)) (and_no (not (ltb b x && leb x c)))
@@ -134,5 +131,5 @@ until_near ats os d s low high =
   where
     near : (o : Option ℕ) → next_after ((d - 1) * day_ns) ats ≡ o → (d - 1) * day_ns < stands_at o → near_from d o ≤ last_day
         → none_within ((near_from d o - 1) * day_ns) ((near_from d o + 2) * day_ns) (changes_of ats os) ≡ false
-    near none e l h = absurd (omega arith)
-    near (some at) e l h = one_within ((d - 1) * day_ns) _ _ at ats os s e (omega arith) (omega arith)
+    near None e l h = absurd (omega arith)
+    near (Some at) e l h = one_within ((d - 1) * day_ns) _ _ at ats os s e (omega arith) (omega arith)

@@ -1,7 +1,6 @@
 -- The test of transitions is what they must be. Assumes nothing.
-use Rattle.std.proofs.Common.{◌≡◌, ℕ, suc, ◌+◌, ◌*◌, ◌<◌, ◌≤◌, Bool, true, false, ◌&&◌, leb, List, [], ◌∷◌, length, get_or, drop, sym, refl, ap, ◌∙◌, ap₂, add-one, arith, drop-cons, le-leb, leb-true}
+use Rattle.std.proofs.Common.{◌≡◌, ℕ, suc, ◌+◌, ◌*◌, ◌≤◌, Bool, true, false, ◌&&◌, leb, List, [], ◌∷◌, length, refl, ap, ◌∙◌, arith, le-leb, leb-true}
 use native.Mathlib.Nat.{suc_inj}
-use lib.Seq.{drop-length}
 use Rattle.wire.proofs.Signs.{and_true, and_no}
 use Rattle.calendar.specs.Answers.{first_day, last_day}
 use Rattle.zone.specs.Units.{day_ns, most_offset}
@@ -13,35 +12,6 @@ last_at = (last_day + 1) * day_ns
 -- the test of one transition
 abbrev pub good : ℕ → ℕ → ℕ → Bool
 good least a o = (leb least a && leb a last_at) && leb o (2 * most_offset)
-
--- ---- the test along the slices
-
-module _ (least : ℕ) (ats os : List ℕ) (i : ℕ) (h : i < length ats) (l : i < length os) where
-  abbrev at : ℕ
-  at = get_or ats i 0
-
-  abbrev here : Bool
-  here = good least at (get_or os i 0)
-
-  abbrev rest : Bool
-  rest = valid_from (at + spacing_ns) (drop (i + 1) ats) (drop (i + 1) os)
-
-  step : valid_from least (drop i ats) (drop i os) ≡ (here && rest)
-  step = rw (add-one i) (ap₂ (valid_from least) (drop-cons ats i 0 h) (drop-cons os i 0 l))
-
-  pub valid_stops : here ≡ false → valid_from least (drop i ats) (drop i os) ≡ false
-  valid_stops e = step ∙ ap (λ (b : Bool). b && rest) e
-
-  pub valid_goes : here ≡ true → (at ≤ last_at) × (rest ≡ valid_from least (drop i ats) (drop i os))
-  valid_goes e =
-      let both = and_true (leb least at && leb at last_at) (leb (get_or os i 0) (2 * most_offset)) e in
-      let two = and_true (leb least at) (leb at last_at) both.0 in
-      (leb-true at last_at two.1, sym (step ∙ ap (λ (b : Bool). b && rest) e))
-
-pub valid_end : (least : ℕ) (ats os : List ℕ) (i : ℕ) → i ≡ length ats → length ats ≡ length os
-    → valid_from least (drop i ats) (drop i os) ≡ true
-valid_end least ats os i e f =
-    ap₂ (valid_from least) (ap (λ (k : ℕ). drop k ats) e ∙ drop-length ats) (ap (λ (k : ℕ). drop k os) (e ∙ f) ∙ drop-length os)
 
 pub valid_lengths : (least : ℕ) (ats os : List ℕ) → (length ats ≡ length os → ⊥) → valid_from least ats os ≡ false
 valid_lengths least [] [] n = absurd (n refl)

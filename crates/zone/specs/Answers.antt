@@ -1,7 +1,9 @@
 -- What a zone's slices must be, and its answers in document 01's numbers. Assumes nothing.
 use Rattle.std.specs.Prelude.{◌≡◌, ℕ, ◌+◌, ◌*◌, ◌≤◌, max, Bool, true, false, cond, ◌&&◌, List, [], ◌∷◌, ◌++◌, length, ℤ, pos, nat_le}
-use Rattle.std.proofs.Math.Option.{Option, none, some}
+use Rattle.std.specs.Prelude.{Option, None, Some}
 use Rattle.std.specs.Int.{w64}
+use Rattle.std.specs.Coded.{le_prop}
+use Rattle.std.proofs.Props.{props}
 use Rattle.std.proofs.Common.{of_z}
 use Rattle.wire.specs.Fields.{bytes}
 use Rattle.calendar.specs.Answers.{first_day, last_day}
@@ -40,6 +42,22 @@ pub record Valid (first : ℕ) (ats offsets : List ℕ) : Type 0 where
   pub ats_in : Each (first_day * day_ns) ((last_day + 1) * day_ns) ats
   pub spaced : Spaced ats
 
+-- each of these is so in one way at most
+pub each_prop : (lo hi : ℕ) (xs : List ℕ) → IsProp (Each lo hi xs)
+each_prop lo hi [] = Prim.hlevel
+each_prop lo hi (x ∷ xs) = let h = each_prop lo hi xs in Prim.hlevel (le_prop, h)
+
+after_prop : (a : ℕ) (bs : List ℕ) → IsProp (After a bs)
+after_prop a [] = Prim.hlevel
+after_prop a (b ∷ bs) = Prim.hlevel le_prop
+
+spaced_prop : (ats : List ℕ) → IsProp (Spaced ats)
+spaced_prop [] = Prim.hlevel
+spaced_prop (a ∷ ats) = let h = after_prop a ats in let t = spaced_prop ats in Prim.hlevel (h, t)
+
+pub valid_prop : (first : ℕ) (ats offsets : List ℕ) → IsProp (Valid first ats offsets)
+valid_prop first ats offsets = Prim.hlevel (each_prop, spaced_prop, le_prop, props)
+
 -- the same as a test: the next instant may be `least`, or later
 abbrev pub valid_from : ℕ → List ℕ → List ℕ → Bool
 valid_from least [] [] = true
@@ -75,17 +93,17 @@ boundary_at z d x u = boundary (resolve z (nearest_reading (reading_at d x))) u
 
 -- how wide, in nanoseconds; none where unbounded
 abbrev pub width : Uncertainty → Option ℕ
-width Exact = some 0
-width (PublishedGranularity n) = some n
-width (PublishedBound n text) = some n
-width (ProcessStart text) = none
-width (AmbiguousLocalTime d) = none
-width (NonexistentLocalTime d) = none
+width Exact = Some 0
+width (PublishedGranularity n) = Some n
+width (PublishedBound n text) = Some n
+width (ProcessStart text) = None
+width (AmbiguousLocalTime d) = None
+width (NonexistentLocalTime d) = None
 
 abbrev pub wider : Option ℕ → Option ℕ → Uncertainty → Uncertainty → Uncertainty
-wider none b left right = left
-wider (some a) none left right = right
-wider (some a) (some b) left right = cond (nat_le b a) left right
+wider None b left right = left
+wider (Some a) None left right = right
+wider (Some a) (Some b) left right = cond (nat_le b a) left right
 
 -- the wider of two, the left on ties and when it is unbounded
 abbrev pub widest_of : Uncertainty → Uncertainty → Uncertainty

@@ -5,3 +5,4 @@ pub mod Throughout
 pub mod Steady
 pub mod Private
 pub mod Examples
+pub mod Clocks

@@ -1,10 +1,7 @@
 -- What the private functions answer. Assumes nothing.
 use Rattle.std.specs.Prelude.{ℕ, ◌^◌, ◌<◌, ◌≤◌, cond, List, ◌∷◌, length, get_or, nat_le, nat_lt, slice_index_or}
-use Rattle.std.proofs.Math.Option.{Option, none, some}
 use Rattle.zone.specs.declared.Resolution.{Resolution}
 use Rattle.zone.specs.declared.Resolution.TheVariants.{Clear, Fold, Gap}
-use Rattle.zone.specs.declared.wide.Width.{Width}
-use Rattle.zone.specs.declared.wide.Width.TheVariants.{Nanos, Unbounded}
 
 -- r of the instants stand at or before t: the last of those does, and the next one stands later
 pub record Passed (ats : List ℕ) (t r : ℕ) : Type 0 where
@@ -24,8 +21,3 @@ abbrev pub around : ℕ → ℕ → ℕ → Resolution
 around at a b =
     cond (nat_lt a at) (cond (nat_le at b) (Fold (record { before = record { 0 = a }; after = record { 0 = b } })) (Clear (record { 0 = a })))
     (cond (nat_le at b) (Clear (record { 0 = b })) (Gap (record { before = record { 0 = a }; after = record { 0 = b } })))
-
--- how wide an uncertainty is, as the code answers it
-abbrev pub bound : Width → Option ℕ
-bound (Nanos n) = some n
-bound Unbounded = none

@@ -1,12 +1,10 @@
 -- Where no transition is near: the wall shows an instant by one offset, and a date's times stand as far behind its midnight as they are long.
 -- Assumes nothing.
 use Rattle.std.specs.Prelude.{ℕ, ◌+◌, ◌-◌, ◌*◌, ◌/◌, ◌≤◌, min, max, Bool, true, cond, not, ◌&&◌, List, [], ◌∷◌, nat_le, nat_lt}
-use Rattle.std.proofs.Math.Option.{Option, none, some}
+use Rattle.std.specs.Prelude.{Option, None, Some}
 use Rattle.calendar.specs.Answers.{first_day, last_day}
 use Rattle.zone.specs.Units.{day_ns, most_offset, most_offset_ns, offset_ns, reading_day}
 use Rattle.zone.specs.Zone.{Change, Zone, offset_at, instant_by}
-use Rattle.zone.specs.declared.steady.Steady.{Steady}
-use Rattle.zone.specs.declared.steady.Steady.TheVariants.{No, By}
 
 -- 56 hours: a day, and twice as much as an offset can be
 abbrev pub margin_ns : ℕ
@@ -25,11 +23,11 @@ none_within a b [] = true
 none_within a b (c ∷ cs) = not (nat_lt a c.at && nat_le c.at b) && none_within a b cs
 
 -- the offset, if no transition stands from 56 hours before `from` to 56 hours after `to`
-unfoldable pub steady_of : Zone → ℕ → ℕ → Steady
+unfoldable pub steady_of : Zone → ℕ → ℕ → Option ℕ
 steady_of z from to =
     cond (nat_le first_steady from && nat_le to last_steady)
-    (cond (none_within (from - margin_ns) (to + margin_ns) z.changes) (By (offset_at z (from - margin_ns))) No)
-    No
+    (cond (none_within (from - margin_ns) (to + margin_ns) z.changes) (Some (offset_at z (from - margin_ns))) None)
+    None
 
 -- the date that the wall shows by an offset
 abbrev pub day_by : ℕ → ℕ → ℕ
@@ -50,13 +48,13 @@ DayOnWall o d = (o ≤ 2 * most_offset) × (3 ≤ d) × (d ≤ last_day + 5)
 
 -- the first of the transitions' instants after t, if there is one
 unfoldable pub next_after : ℕ → List ℕ → Option ℕ
-next_after t [] = none
-next_after t (a ∷ ats) = cond (nat_lt t a) (some a) (next_after t ats)
+next_after t [] = None
+next_after t (a ∷ ats) = cond (nat_lt t a) (Some a) (next_after t ats)
 
 -- the first date from d on whose next day does not end before a transition; where that is past the calendar, the date behind it
 abbrev pub near_from : ℕ → Option ℕ → ℕ
-near_from d none = last_day + 1
-near_from d (some at) = max d (min ((at - 1) / day_ns - 1) (last_day + 1))
+near_from d None = last_day + 1
+near_from d (Some at) = max d (min ((at - 1) / day_ns - 1) (last_day + 1))
 
 -- the first date from d on near which the clock changes: a transition stands after the day before the date begins and not after the next day
 -- ends. Where there is none, the date behind the calendar; outside the calendar, d itself

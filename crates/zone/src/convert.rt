@@ -1,13 +1,14 @@
 // Readings of instants, and instants of readings.
-ghost use Rattle.std.specs.Prelude.{◌≡◌, ◌*◌, ◌≤◌, min, max};
+ghost use Rattle.std.specs.Prelude.{◌≡◌, ◌*◌, ◌≤◌};
 ghost use Rattle.zone.specs.Units.{most_offset, first_reading, last_reading, nearest_reading, reading_day, reading_time, reading_at};
-ghost use Rattle.zone.specs.Zone.{zone_of, reading_of, date_at, instant_by, resolve};
-ghost use Rattle.zone.specs.Answers.{Valid, boundary_at, taken as Answers·taken, uncertain as Answers·uncertain};
+ghost use Rattle.zone.specs.Zone.{reading_of, date_at, instant_by, resolve};
+ghost use Rattle.zone.specs.Answers.{boundary_at, taken as Answers·taken, uncertain as Answers·uncertain};
+ghost use Rattle.zone.specs.Clocks.{zone_in};
 ghost use Rattle.zone.specs.Private.{around as Private·around};
 
-use crate::search::{offset_after, offset_at, passed};
+use crate::search::passed;
 use crate::{
-    Boundary, DAY_NS, Doubt, FIRST_INSTANT, Instant, LAST_INSTANT, MOST_OFFSET_NS, Reading,
+    Boundary, Clock, DAY_NS, Doubt, FIRST_INSTANT, Instant, LAST_INSTANT, MOST_OFFSET_NS, Reading,
     Resolution, SECOND_NS, Uncertainty,
 };
 use calendar::{Day, FIRST_DAY, LAST_DAY};
@@ -17,30 +18,6 @@ const FIRST_READING: u64 = (FIRST_DAY as u64 - 5) * DAY_NS;
 const LAST_READING: u64 = (LAST_DAY as u64 + 7) * DAY_NS;
 
 const LAST_READING_DAY: u64 = LAST_DAY as u64 + 6;
-
-// The number from `low` to `high` that is nearest to x.
-pub(crate) fn nearest(low: u64, x: u64, high: u64) -> u64
-    requires { low ≤ high }
-    ensures { result ≡ max low (min x high) }
-{
-    if x < low {
-        return low;
-    }
-    if high < x {
-        return high;
-    }
-    x
-}
-
-// What the wall shows at an instant.
-pub fn reading_of(offset0: u32, ats: &[u64], offsets: &[u32], t: Instant) -> Reading
-    requires { Valid offset0 ats.now offsets.now }
-    ensures { result.0 ≡ reading_of (zone_of offset0 ats.now offsets.now) t.0 }
-{
-    let u = nearest(FIRST_INSTANT, t.0, LAST_INSTANT);
-    let offset = offset_at(offset0, ats, offsets, Instant(u)) as u64;
-    Reading(u + offset * SECOND_NS - MOST_OFFSET_NS)
-}
 
 // The date of a reading.
 pub fn day_of_reading(x: Reading) -> Day
@@ -60,8 +37,8 @@ pub fn time_of_reading(x: Reading) -> u64
 pub fn reading_at(d: Day, time: u64) -> Reading
     ensures { result.0 ≡ reading_at d.0 time }
 {
-    let day = nearest(0, d.0 as u64, LAST_READING_DAY);
-    Reading(day * DAY_NS + nearest(0, time, DAY_NS))
+    let day = (d.0 as u64).min(LAST_READING_DAY);
+    Reading(day * DAY_NS + time.min(DAY_NS))
 }
 
 // The instant of a reading by an offset.
@@ -92,25 +69,6 @@ fn around(at: u64, a: u64, b: u64) -> Resolution
     Resolution::Gap(doubt)
 }
 
-// The instants of a reading. At most one transition stands near enough to matter: 57,600 s to either side, where two are never
-// less than 172,800 s apart.
-pub fn to_utc(offset0: u32, ats: &[u64], offsets: &[u32], x: Reading) -> Resolution
-    requires { Valid offset0 ats.now offsets.now }
-    ensures { result ≡ resolve (zone_of offset0 ats.now offsets.now) (nearest_reading x.0) }
-{
-    let wall = nearest(FIRST_READING, x.0, LAST_READING);
-    let count = passed(ats, wall - MOST_OFFSET_NS);
-    let a = instant_by(offset_after(offset0, offsets, count), wall);
-    if ats.len() <= count {
-        return Resolution::Clear(Instant(a));
-    }
-    let at = ats[count];
-    if wall + MOST_OFFSET_NS < at {
-        return Resolution::Clear(Instant(a));
-    }
-    around(at, a, instant_by(offsets[count], wall))
-}
-
 // The instant taken for a reading: in a fold the earlier, in a gap the later.
 pub fn taken(r: Resolution) -> Instant
     ensures { result.0 ≡ Answers·taken r }
@@ -137,28 +95,50 @@ fn uncertain(r: Resolution, published: Uncertainty) -> Uncertainty
     }
 }
 
-// The boundary at a time of a date, with the uncertainty that is published for it.
-pub fn to_utc_at(
-    offset0: u32,
-    ats: &[u64],
-    offsets: &[u32],
-    d: Day,
-    time: u64,
-    published: Uncertainty,
-) -> Boundary
-    requires { Valid offset0 ats.now offsets.now }
-    ensures { result ≡ boundary_at (zone_of offset0 ats.now offsets.now) d.0 time published }
-{
-    let r = to_utc(offset0, ats, offsets, reading_at(d, time));
-    let at = taken(r);
-    let uncertainty = uncertain(r, published);
-    Boundary { at, uncertainty }
-}
+impl Clock<'_> {
+    // What the wall shows at an instant.
+    pub fn reading_of(&self, t: Instant) -> Reading
+        ensures { result.0 ≡ reading_of (zone_in self.now) t.0 }
+    {
+        let u = t.0.clamp(FIRST_INSTANT, LAST_INSTANT);
+        let offset = self.offset_at(Instant(u)) as u64;
+        Reading(u + offset * SECOND_NS - MOST_OFFSET_NS)
+    }
 
-// The date that the wall shows at an instant.
-pub fn day_at(offset0: u32, ats: &[u64], offsets: &[u32], t: Instant) -> Day
-    requires { Valid offset0 ats.now offsets.now }
-    ensures { result.0 ≡ date_at (zone_of offset0 ats.now offsets.now) t.0 }
-{
-    day_of_reading(reading_of(offset0, ats, offsets, t))
+    // The date that the wall shows at an instant.
+    pub fn day_at(&self, t: Instant) -> Day
+        ensures { result.0 ≡ date_at (zone_in self.now) t.0 }
+    {
+        day_of_reading(self.reading_of(t))
+    }
+
+    // The instants of a reading. At most one transition stands near enough to matter: 57,600 s to either side, where two are never
+    // less than 172,800 s apart.
+    pub fn to_utc(&self, x: Reading) -> Resolution
+        ensures { result ≡ resolve (zone_in self.now) (nearest_reading x.0) }
+    {
+        let ats = self.ats;
+        let offsets = self.offsets;
+        let wall = x.0.clamp(FIRST_READING, LAST_READING);
+        let count = passed(ats, wall - MOST_OFFSET_NS);
+        let a = instant_by(self.offset_after(count), wall);
+        if ats.len() <= count {
+            return Resolution::Clear(Instant(a));
+        }
+        let at = ats[count];
+        if wall + MOST_OFFSET_NS < at {
+            return Resolution::Clear(Instant(a));
+        }
+        around(at, a, instant_by(offsets[count], wall))
+    }
+
+    // The boundary at a time of a date, with the uncertainty that is published for it.
+    pub fn to_utc_at(&self, d: Day, time: u64, published: Uncertainty) -> Boundary
+        ensures { result ≡ boundary_at (zone_in self.now) d.0 time published }
+    {
+        let r = self.to_utc(reading_at(d, time));
+        let at = taken(r);
+        let uncertainty = uncertain(r, published);
+        Boundary { at, uncertainty }
+    }
 }

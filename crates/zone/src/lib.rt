@@ -1,6 +1,7 @@
 // Instants and a venue's wall readings, after RFC 9636: the only crate that adds an offset or takes one away.
 #![tactic(auto)]
 
+mod clock;
 mod convert;
 mod dated;
 mod number;
@@ -10,13 +11,10 @@ mod valid;
 mod wide;
 
 use calendar::{FIRST_DAY, LAST_DAY};
-pub use convert::{
-    day_at, day_of_reading, reading_at, reading_of, taken, time_of_reading, to_utc, to_utc_at,
-};
-pub use dated::reads_throughout;
+pub use clock::Clock;
+pub use convert::{day_of_reading, reading_at, taken, time_of_reading};
 pub use number::{instant_of, instant_of_seconds, number_bits};
-pub use search::offset_at;
-pub use steady::{Steady, steady_day, steady_midnight, steady_offset, steady_until};
+pub use steady::{steady_day, steady_midnight};
 pub use valid::is_valid;
 pub use wide::widest;
 
@@ -52,6 +50,13 @@ pub struct Instant(pub u64);
 // Nanoseconds since 1899-12-25T00:00 on a venue's wall.
 #[derive(Clone, Copy)]
 pub struct Reading(pub u64);
+
+// The instants from the start to before the end.
+#[derive(Clone, Copy)]
+pub struct Interval {
+    pub start: Instant,
+    pub end: Instant,
+}
 
 // A reading that a transition makes doubtful, by the offset before the transition and by the one after it.
 #[derive(Clone, Copy)]

@@ -22,7 +22,7 @@ const SECOND_ZERO: u64 = HALF8 - SECONDS_TO_1970;
 const FROM_1970: u64 = INSTANT_ZERO + HALF8;
 
 // The instant that a number means.
-pub fn instant_of(p: Placed) -> Instant
+pub fn instant_of(p: Placed<u64>) -> Instant
     ensures { result.0 ≡ instant_of (meant w64 p.0) }
 {
     let placed = p.0;
@@ -33,7 +33,7 @@ pub fn instant_of(p: Placed) -> Instant
 }
 
 // The instant that a number of seconds means.
-pub fn instant_of_seconds(p: Placed) -> Instant
+pub fn instant_of_seconds(p: Placed<u64>) -> Instant
     requires { SecondsFit p.0 }
     ensures { result.0 ≡ seconds_instant (meant w64 p.0) }
 {
@@ -44,5 +44,5 @@ pub fn instant_of_seconds(p: Placed) -> Instant
 pub fn number_bits(t: Instant) -> u64
     ensures { result ≡ of_z w64 (instant_number t.0) }
 {
-    std::num::wrapping_add_u64(t.0, FROM_1970)
+    t.0.wrapping_add(FROM_1970)
 }

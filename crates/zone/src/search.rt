@@ -1,11 +1,11 @@
 // The offset that holds at an instant. An offset is in seconds plus 57,600, so that it is never negative.
 ghost use Rattle.std.specs.Prelude.{◌≡◌, ◌*◌, ◌≤◌, ◌∷◌, length, slice_index, slice_index_or};
 ghost use Rattle.zone.specs.Units.{most_offset};
-ghost use Rattle.zone.specs.Zone.{zone_of, offset_at};
-ghost use Rattle.zone.specs.Answers.{Valid};
+ghost use Rattle.zone.specs.Zone.{offset_at};
+ghost use Rattle.zone.specs.Clocks.{zone_in};
 ghost use Rattle.zone.specs.Private.{Between, Passed};
 
-use crate::Instant;
+use crate::{Clock, Instant};
 
 // Fewer transitions than this are bisected at once.
 const FEW: usize = 8;
@@ -23,6 +23,7 @@ fn bisected(ats: &[u64], t: u64, from: usize, to: usize) -> usize
 {
     let mut low = from;
     let mut high = to;
+    // The library's `partition_point` would have every caller show that the instants are in order; that the answer lies between is enough here.
     while low < high {
         let middle = low + (high - low) / 2;
         if ats[middle] <= t {
@@ -106,22 +107,24 @@ pub(crate) fn passed(ats: &[u64], t: u64) -> usize
     sought(ats, t)
 }
 
-// The offset once a number of the transitions have passed.
-pub(crate) fn offset_after(offset0: u32, offsets: &[u32], count: usize) -> u32
-    requires { count ≤ length offsets.now }
-    ensures { result ≡ slice_index (offset0 ∷ offsets.now) count }
-{
-    if count == 0 {
-        offset0
-    } else {
-        offsets[count - 1]
+impl Clock<'_> {
+    // The offset once a number of the transitions have passed.
+    pub(crate) fn offset_after(&self, count: usize) -> u32
+        requires { count ≤ length self.now.offsets.now }
+        ensures { result ≡ slice_index (self.now.offset0 ∷ self.now.offsets.now) count }
+    {
+        if count == 0 {
+            self.offset0
+        } else {
+            self.offsets[count - 1]
+        }
     }
-}
 
-pub fn offset_at(offset0: u32, ats: &[u64], offsets: &[u32], t: Instant) -> u32
-    requires { Valid offset0 ats.now offsets.now }
-    ensures { (result ≡ offset_at (zone_of offset0 ats.now offsets.now) t.0) × (result ≤ 2 * most_offset) }
-{
-    let count = passed(ats, t.0);
-    offset_after(offset0, offsets, count)
+    // The offset that holds at an instant.
+    pub fn offset_at(&self, t: Instant) -> u32
+        ensures { (result ≡ offset_at (zone_in self.now) t.0) × (result ≤ 2 * most_offset) }
+    {
+        let count = passed(self.ats, t.0);
+        self.offset_after(count)
+    }
 }

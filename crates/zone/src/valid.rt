@@ -15,16 +15,12 @@ pub fn is_valid(offset0: u32, ats: &[u64], offsets: &[u32]) -> bool
     if ats.len() != offsets.len() {
         return false;
     }
-    let mut i: usize = 0;
     let mut least = FIRST_TRANSITION;
-    while i < ats.len() {
-        let at = ats[i];
-        let offset = offsets[i];
-        if !((least <= at) & (at <= LAST_TRANSITION) & (offset <= OFFSET_MOST)) {
+    for (at, offset) in ats.iter().zip(offsets) {
+        if !((least <= *at) & (*at <= LAST_TRANSITION) & (*offset <= OFFSET_MOST)) {
             return false;
         }
-        least = at + SPACING_NS;
-        i += 1;
+        least = *at + SPACING_NS;
     }
     true
 }

@@ -1,27 +1,20 @@
 // The wider of two uncertainties.
 ghost use Rattle.std.specs.Prelude.{◌≡◌};
 ghost use Rattle.zone.specs.Answers.{width, widest_of};
-ghost use Rattle.zone.specs.Private.{bound};
 
 use crate::Uncertainty;
 
-// How wide an uncertainty is.
-#[derive(Clone, Copy)]
-pub enum Width {
-    Nanos(u64),
-    Unbounded,
-}
-
-pub(crate) fn bound_nanos(u: Uncertainty) -> Width
-    ensures { bound result ≡ width u }
+// How wide an uncertainty is, in nanoseconds; none where it is unbounded.
+pub(crate) fn bound_nanos(u: Uncertainty) -> Option<u64>
+    ensures { result ≡ width u }
 {
     match u {
-        Uncertainty::Exact => Width::Nanos(0),
-        Uncertainty::PublishedGranularity(n) => Width::Nanos(n),
-        Uncertainty::PublishedBound(n, _) => Width::Nanos(n),
-        Uncertainty::ProcessStart(_) => Width::Unbounded,
-        Uncertainty::AmbiguousLocalTime(_) => Width::Unbounded,
-        Uncertainty::NonexistentLocalTime(_) => Width::Unbounded,
+        Uncertainty::Exact => Some(0),
+        Uncertainty::PublishedGranularity(n) => Some(n),
+        Uncertainty::PublishedBound(n, _) => Some(n),
+        Uncertainty::ProcessStart(_) => None,
+        Uncertainty::AmbiguousLocalTime(_) => None,
+        Uncertainty::NonexistentLocalTime(_) => None,
     }
 }
 
@@ -29,11 +22,9 @@ pub(crate) fn bound_nanos(u: Uncertainty) -> Width
 pub fn widest(left: Uncertainty, right: Uncertainty) -> Uncertainty
     ensures { result ≡ widest_of left right }
 {
-    match bound_nanos(left) {
-        Width::Unbounded => left,
-        Width::Nanos(a) => match bound_nanos(right) {
-            Width::Unbounded => right,
-            Width::Nanos(b) => { if b <= a { left } else { right } }
-        },
+    match (bound_nanos(left), bound_nanos(right)) {
+        (None, _) => left,
+        (Some(_), None) => right,
+        (Some(a), Some(b)) => { if b <= a { left } else { right } }
     }
 }
