@@ -4,7 +4,7 @@
 #![tactic(auto)]
 
 ghost use Rattle.std.specs.Prelude.{◌≡◌, ◌≤◌, IfOk, length};
-ghost use Rattle.cases.specs.Cases.{number_at, more, met_of};
+ghost use Rattle.cases.specs.Cases.{number_at, counted, more, met_of};
 
 use std::io::{Read, Result};
 use wire::{Field, HALF8, Placed};
@@ -70,7 +70,7 @@ pub fn read_full<R: Read>(from: &mut R, buffer: &mut [u8]) -> Result<usize>
     Ok(filled)
 }
 
-// Hands each block of a list to a visitor.
+// Hands each block of a list to a visitor. What the visits add up to is compared with what should be, and not proved.
 pub fn each_block<R: Read, F: FnMut(&[u8])>(list: &mut R, mut visit: F) -> Result<()>
     requires { F.IsAlwaysCallable visit }
 {
@@ -86,7 +86,9 @@ pub fn each_block<R: Read, F: FnMut(&[u8])>(list: &mut R, mut visit: F) -> Resul
 }
 
 // A number of the list that counts something; 0 for one below 0 or not below 2^32.
-pub fn count(p: Placed<u64>) -> u32 {
+pub fn count(p: Placed<u64>) -> u32
+    ensures { result ≡ counted p.0 }
+{
     let n = p.0;
     if n < ZERO {
         return 0;
