@@ -27,8 +27,8 @@ use Rattle.calendar.proofs.Dates.{Valid, valid_of, day_on, day_means, has_number
 
 -- ---- no second answer fits
 
-pub numbered_once : (y m d : ℕ) (r s : Option ℤ) → r ≡ day_number y m d → s ≡ day_number y m d → r ≡ s
-numbered_once y m d r s p q = p ∙ sym q
+pub numbered_once : (n r s : Option ℤ) → r ≡ n → s ≡ n → r ≡ s
+numbered_once n r s p q = p ∙ sym q
 
 day_by : (a b : ℕ) → a ≡ b → ◌≡◌ {A = Option Day} (Some (record { 0 = a })) (Some (record { 0 = b }))
 day_by a b e = cc

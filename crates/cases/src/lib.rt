@@ -6,7 +6,7 @@
 ghost use Rattle.std.specs.Prelude.{◌≡◌, ◌≤◌, IfOk, length};
 ghost use Rattle.cases.specs.Cases.{number_at, counted, more, met_of};
 
-use std::io::{Read, Result};
+use std::io::{AsBytes, Read, Result};
 use wire::{Field, HALF8, Placed};
 
 // How many bytes a block of a list has.
@@ -99,10 +99,11 @@ pub fn count(p: Placed<u64>) -> u32
     (n - ZERO) as u32
 }
 
-// Prints a name and the count at a place. What is printed is compared with what should be, and not proved.
-pub fn report(rt: &impl Print, name: &str, counts: &[u64], kind: u8) -> Result<()> {
+// Prints a name, as it is, and the count at a place. What is printed is compared with what should be, and not proved.
+pub fn report(rt: &impl Print, name: impl AsBytes + Copy, counts: &[u64], kind: u8) -> Result<()> {
     if let Some(count) = counts.get(kind as usize) {
-        println!(rt; "{name} {count}")?;
+        rt.write_all(name.as_byte_slice())?;
+        println!(rt; "{count}")?;
     }
     Ok(())
 }
@@ -111,10 +112,8 @@ pub fn report(rt: &impl Print, name: &str, counts: &[u64], kind: u8) -> Result<(
 pub fn report_refusals(rt: &impl Print, counts: &[u64], end: u8) -> Result<()> {
     for kind in 2..end {
         let number = kind - 1;
-        print!(rt; "refused by {number} ")?;
-        if let Some(count) = counts.get(kind as usize) {
-            println!(rt; "{count}")?;
-        }
+        print!(rt; "refused by {number}")?;
+        report(rt, " ", counts, kind)?;
     }
     Ok(())
 }

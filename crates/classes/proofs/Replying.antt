@@ -1,24 +1,53 @@
 -- The replies, by the order of their numbers. Assumes nothing.
-use mathlib.Core.Path.{◌≡◌, sym, ap}
-use mathlib.Core.Bool.{true, false}
+use mathlib.Core.Path.{◌≡◌, refl, sym, ap, ◌∙◌}
+use mathlib.Core.Bool.{true, false, cond}
 use mathlib.Core.List.{List}
 use Prim.Native.Nat.{ℕ}
+use lib.Dec.{eqb}
 use lib.IntN.{ℤ}
 use lib.ListN.{length}
 use mir.Syntax.{w64}
-use Rattle.std.specs.Prelude.{Ok, Err}
+use Rattle.std.specs.Prelude.{Result, Ok, Err}
 use Rattle.wire.specs.Signs.{placed}
 use Rattle.records.specs.Book.{inside, instants}
 use Rattle.lend.specs.Refusals.{number}
+use Rattle.lend.proofs.Refusals.{refuses, number_once}
 use Rattle.lend.specs.declared.refusal.Refusal.{Refusal}
 use Rattle.rows.specs.Rows.{Row, good_row, good_rows, segments, rows}
 use Rattle.rows.proofs.Laws.{rows_none}
 use Rattle.classes.specs.Classes.{class_number, class_at, no_class, judged_class, class_reply, number_of, counted, no_count, judged_count, count_reply}
 use Rattle.classes.specs.Reading.{class_told, count_told}
 use Rattle.classes.specs.declared.Class.{Class}
+use Rattle.classes.specs.declared.Class.TheVariants.{Trading, NotTrading, NotKnown, NotShown}
 use Rattle.classes.specs.declared.ClassReply.{ClassReply}
 use Rattle.classes.specs.declared.CountReply.{CountReply}
 use Rattle.classes.specs.declared.counting.Counts.{Counts}
+
+-- ---- no second answer fits: no two answers are told alike
+
+abbrev class_by : ℕ → Class
+class_by n = cond (eqb n 1) Trading (cond (eqb n 2) NotTrading (cond (eqb n 3) NotKnown NotShown))
+
+class_back : (x : Class) → class_by (class_number x) ≡ x
+class_back Trading = refl
+class_back NotTrading = refl
+class_back NotKnown = refl
+class_back NotShown = refl
+
+pub class_once : (r s : Result Class Refusal) → class_told r ≡ class_told s → r ≡ s
+class_once (Ok x) (Ok y) e = ap Ok (sym (class_back x) ∙ ap (λ (r : ClassReply). class_by r.shown) e ∙ class_back y)
+class_once (Ok x) (Err w) e = absurd (refuses w (sym (ap (λ (r : ClassReply). r.number) e)))
+class_once (Err w) (Ok x) e = absurd (refuses w (ap (λ (r : ClassReply). r.number) e))
+class_once (Err w) (Err v) e = ap Err (number_once w v (ap (λ (r : ClassReply). r.number) e))
+
+abbrev counts_by : CountReply → Counts
+counts_by r = record { venues = r.venues; trading = r.trading; not_trading = r.not_trading; not_known = r.not_known }
+
+pub count_once : (r s : Result Counts Refusal) → count_told r ≡ count_told s → r ≡ s
+count_once (Ok c) (Ok d) e = ap (λ (r : CountReply). Ok (counts_by r)) e
+count_once (Ok c) (Err w) e = absurd (refuses w (sym (ap (λ (r : CountReply). r.number) e)))
+count_once (Err w) (Ok c) e = absurd (refuses w (ap (λ (r : CountReply). r.number) e))
+count_once (Err w) (Err v) e = ap Err (number_once w v (ap (λ (r : CountReply). r.number) e))
 
 module _ (s : List ℕ) where
   module _ (at : ℤ) where

@@ -127,7 +127,7 @@ look_after lo hi t (s ∷ ss) w o =
     go false e true f more = more
     go false e false f more = more
 
-look_day : (z : Zone) (g : ℕ → Option Rule) (d t : ℕ)
+pub look_day : (z : Zone) (g : ℕ → Option Rule) (d t : ℕ)
     → look (λ (h : Held). h) (spans (venue_by z g) d) t ≡ begun_held (after t (spans (venue_by z g) d)) t
 look_day z g d t =
     let w = spans_within (venue_by z g) d in

@@ -3,18 +3,17 @@ ghost use Rattle.std.specs.Prelude.{◌≡◌, ◌-◌};
 ghost use Rattle.zone.specs.Clocks.{zone_in};
 ghost use Rattle.venue.specs.Values.{rules_in};
 ghost use Rattle.spans.specs.Spans.{look};
-ghost use Rattle.spans.specs.Timeline.{spans};
+ghost use Rattle.spans.specs.Timeline.{spans, point_at};
 ghost use Rattle.day.specs.Governing.{governing_rule, governing_place};
-ghost use Rattle.day.specs.Days.{Held, venue_by, venue_of, after, holding_date, point_of};
+ghost use Rattle.day.specs.Days.{Held, venue_by, after, holding_date};
 ghost use Rattle.day.specs.Meaning.{held, ChosenAt, begun as Meaning·begun};
-ghost use Rattle.day.specs.Venues.{values_in};
 
 use crate::DaySegment;
 use crate::cut::rule_segment_after;
 use crate::govern::governing_rule;
 use calendar::Day;
-use venue::{Rule, Rules, Venue};
-use zone::{Clock, Instant};
+use venue::{Rule, Rules};
+use zone::{Clock, Instant, Interval};
 
 // The first span of a date that ends after t.
 pub fn day_segment_after(
@@ -52,19 +51,24 @@ fn day_holding(clock: &Clock<'_>, rules: &Rules<'_>, d: Day, t: Instant) -> Opti
     begun(day_segment_after(clock, rules, d, t), t)
 }
 
-// The first span that holds t, of yesterday, today and tomorrow; outside coverage none.
-pub fn resolve_phase(venue: &Venue<'_>, t: Instant) -> Option<DaySegment>
-    ensures { (held venue.now.rules.book.now result ≡ point_of (values_in venue.now) t.0)
-        × ChosenAt venue.now.rules.book.now
-        (governing_place venue.now.rules.book.now venue.now.rules.places.now
-        (holding_date (venue_of (values_in venue.now)) t.0)) result }
+// The first span that holds t, of yesterday, today and tomorrow; outside what is covered none, and where that is empty never.
+pub fn resolve_phase(
+    coverage: Interval,
+    clock: &Clock<'_>,
+    rules: &Rules<'_>,
+    t: Instant,
+) -> Option<DaySegment>
+    ensures { (held rules.now.book.now result
+        ≡ point_at (λ (h : Held). h) (venue_by (zone_in clock.now) (governing_rule (rules_in rules.now)))
+        (record { start = coverage.start.0; end = coverage.end.0 }) t.0)
+        × ChosenAt rules.now.book.now
+        (governing_place rules.now.book.now rules.now.places.now
+        (holding_date (venue_by (zone_in clock.now) (governing_rule (rules_in rules.now))) t.0)) result }
 {
-    let clock = &venue.clock;
-    let rules = &venue.rules;
-    if t.0 < venue.coverage.start.0 {
+    if t.0 < coverage.start.0 {
         return None;
     }
-    if venue.coverage.end.0 <= t.0 {
+    if coverage.end.0 <= t.0 {
         return None;
     }
     let today = clock.day_at(t);

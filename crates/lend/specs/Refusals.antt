@@ -22,15 +22,21 @@ number TooManyColumns = 14
 number BadRow = 15
 number NoRoom = 16
 
--- of what was judged: 0 where it passes
-abbrev pub number_of : {A : Type 0} → Result A Refusal → ℕ
-number_of (Ok x) = 0
-number_of (Err r) = number r
+-- of what was judged: 0 where it passes, else the number of what says why
+abbrev pub number_by : {A E : Type 0} → (E → ℕ) → Result A E → ℕ
+number_by said (Ok x) = 0
+number_by said (Err e) = said e
 
--- the same answer with the number in place of the refusal
+abbrev pub number_of : {A : Type 0} → Result A Refusal → ℕ
+number_of r = number_by number r
+
+-- the same answer with the number in place of what says why
+abbrev pub numbered_by : {A E : Type 0} → (E → ℕ) → Result A E → Result A ℕ
+numbered_by said (Ok x) = Ok x
+numbered_by said (Err e) = Err (said e)
+
 abbrev pub numbered : {A : Type 0} → Result A Refusal → Result A ℕ
-numbered (Ok x) = Ok x
-numbered (Err r) = Err (number r)
+numbered r = numbered_by number r
 
 -- the reply that tells it: the number and length 0, or 0 and the length
 abbrev pub reply_of : Result ℕ Refusal → Reply

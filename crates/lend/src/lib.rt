@@ -5,7 +5,7 @@ ghost use Rattle.std.specs.Prelude.{◌≡◌};
 
 mod refusal;
 
-pub use refusal::Refusal;
+pub use refusal::{Refusal, Why};
 
 // A number of document 01, 0 for an answer, and the answer's length.
 #[repr(C)]

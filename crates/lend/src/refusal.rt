@@ -1,5 +1,5 @@
 // Why a book, a query or a row is refused.
-ghost use Rattle.std.specs.Prelude.{◌≡◌};
+ghost use Rattle.std.specs.Prelude.{ℕ, ◌≡◌};
 ghost use Rattle.lend.specs.Refusals.{number, reply_of};
 
 use crate::{Reply, answered, refused};
@@ -30,6 +30,31 @@ impl From<Refusal> for u32 {
 
     fn from(r: Refusal) -> u32 {
         r as u32
+    }
+}
+
+// What says why something is refused: the refusal, or its number.
+pub trait Why: Copy {
+    ghost said: { Self → ℕ };
+
+    // What says this refusal.
+    fn of(why: Refusal) -> Self
+        ensures { said result ≡ number why };
+}
+
+impl Why for Refusal {
+    ghost said = { number };
+
+    fn of(why: Refusal) -> Refusal {
+        why
+    }
+}
+
+impl Why for u32 {
+    ghost said = { λ n. n };
+
+    fn of(why: Refusal) -> u32 {
+        u32::from(why)
     }
 }
 

@@ -1,7 +1,7 @@
 -- The tests of plain dates and of plain windows decide them. Assumes nothing.
 use mathlib.Core.Path.{◌≡◌, refl, sym, subst}
 use mathlib.Core.Bool.{Bool, true, false, ◌&&◌, ◌||◌}
-use mathlib.Core.List.{List, [], ◌∷◌}
+use mathlib.Core.List.{List, [], ◌∷◌, map}
 use Rattle.std.specs.Prelude.{Option, None, Some}
 use Prim.Native.Nat.{ℕ, zero, suc, ◌+◌, ◌-◌, ◌≤◌, ◌<◌}
 use native.Mathlib.Decide.{dec_lt, dec_le}
@@ -11,12 +11,12 @@ use lib.Dec.{leb, ltb}
 use lib.IntN.{ℤ}
 use Rattle.wire.proofs.Signs.{and_true}
 use Rattle.zone.specs.Clocks.{zone_in}
-use Rattle.zone.specs.Zone.{Zone, date_at}
+use Rattle.zone.specs.Zone.{Zone, zone_of, date_at}
 use Rattle.zone.specs.Throughout.{reads_throughout}
 use Rattle.zone.proofs.Throughout.{reads_all, all_read}
-use Rattle.records.specs.Records.{Point, Rule, Coverage}
+use Rattle.records.specs.Records.{Point, Rule, Coverage, rule_at}
 use Rattle.records.specs.Book.{records}
-use Rattle.venue.specs.Opening.{coverage_of}
+use Rattle.venue.specs.Opening.{coverage_of, ats_of, offsets_of, rule_places}
 use Rattle.venue.specs.Values.{rules_in}
 use Rattle.venue.specs.Filled.{Holds}
 use Rattle.venue.specs.declared.opened.Header.{Header}
@@ -25,7 +25,7 @@ use Rattle.venue.proofs.Known.{Known}
 use Rattle.spans.specs.Timeline.{Venue, Part, midnight}
 use Rattle.day.specs.Governing.{governing_rule}
 use Rattle.day.specs.Days.{Values, Held, values_of, venue_by, venue_of}
-use Rattle.day.proofs.Opened.{opened_values}
+use Rattle.day.proofs.Opened.{stored_values, opened_values}
 use Rattle.zone.specs.Units.{instant_of}
 use Rattle.plain.specs.Plain.{Rises, InOrder, PlainDate, PlainWindow}
 use Rattle.plain.specs.Books.{window, PlainFor, Plain}
@@ -216,6 +216,14 @@ book_decides s start end h = go (coverage_of (records s))
     go : (o : Option Coverage) → Decides (plain_for (records s) (window start end) o) (PlainFor (records s) (window start end) o)
     go None = record { yes = λ e. no_test e; no = λ p. absurd p }
     go (Some c) = let v = values_of (records s) c in window_decides v.zone v.governing (window start end) h
+
+-- over what opening a book stores
+pub stored_decides : (s : List ℕ) (h : Header) (k : Known s h) (w : Part) (r : Bool)
+    → Decides r (PlainWindow (venue_by (zone_of h.offset0 (ats_of (records s)) (offsets_of (records s))) (governing_rule (map (rule_at s) (rule_places s)))) w)
+    → Decides r (PlainFor (records s) w (coverage_of (records s)))
+stored_decides s h k w r d =
+    subst (λ (o : Option Coverage). Decides r (PlainFor (records s) w o)) (sym k.is)
+    (subst (λ (v : Values). Decides r (PlainWindow (venue_of v) w)) (stored_values s h k) d)
 
 -- as the code answers it, over an opened book
 pub opened_decides : {s : List ℕ} {h : Header} {o : OpenVenue} → Holds s h o → Known s h → (w : Part) (r : Bool)

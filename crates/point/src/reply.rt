@@ -51,7 +51,7 @@ fn tell_known(venue: &Venue<'_>, g: DaySegment, out: &mut [u8]) -> Result<usize,
 fn tell_venue(venue: &Venue<'_>, t: Instant, out: &mut [u8]) -> Result<usize, Refusal>
     ensures { Lent 0 (encode_all (told (values_in venue.now) (Some venue.now.coverage) t.0)) out.old out.new (reply_of result) }
 {
-    match resolve_phase(venue, t) {
+    match resolve_phase(venue.coverage, &venue.clock, &venue.rules, t) {
         None => tell_missing(out, t, Some(venue.coverage)),
         Some(g) => tell_known(venue, g, out),
     }

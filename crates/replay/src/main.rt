@@ -262,26 +262,27 @@ fn compare(list: &[u8], kind: u8, counts: &mut [u64]) -> usize
 
 fn all_records(list: &[u8], counts: &mut [u64]) {
     let mut at: usize = 0;
+    // A record says where the next one begins.
     while at < list.len() {
         at += compare(&list[at..], list[at], counts);
     }
 }
 
 fn told_kinds(rt: &HostRuntime, counts: &[u64]) -> Result<()> {
-    report(rt, "answered", counts, 1)?;
-    report(rt, "known points", counts, KNOWN)?;
-    report(rt, "unknown points", counts, UNKNOWN)?;
-    report(rt, "windows", counts, ENTRIES + WINDOW)?;
-    report(rt, "tallies", counts, ENTRIES + TALLY)?;
-    report(rt, "cells", counts, ENTRIES + CELLS)?;
-    report(rt, "classes", counts, ENTRIES + CLASS)?;
-    report(rt, "counts", counts, ENTRIES + ROWS)
+    report(rt, "answered ", counts, 1)?;
+    report(rt, "known points ", counts, KNOWN)?;
+    report(rt, "unknown points ", counts, UNKNOWN)?;
+    report(rt, "windows ", counts, ENTRIES + WINDOW)?;
+    report(rt, "tallies ", counts, ENTRIES + TALLY)?;
+    report(rt, "cells ", counts, ENTRIES + CELLS)?;
+    report(rt, "classes ", counts, ENTRIES + CLASS)?;
+    report(rt, "counts ", counts, ENTRIES + ROWS)
 }
 
 fn told_numbers(rt: &HostRuntime, counts: &[u64]) -> Result<()> {
     report_refusals(rt, counts, KNOWN)?;
-    report(rt, "differences", counts, 0)?;
-    report(rt, "bytes of the list not understood", counts, STRANGE)
+    report(rt, "differences ", counts, 0)?;
+    report(rt, "bytes of the list not understood ", counts, STRANGE)
 }
 
 fn main(rt: HostRuntime) -> Result<()> {

@@ -135,7 +135,7 @@ module _ (marks : Bool) (s : List ℕ) (at least n : ℕ) where
             let p = or_false (good_phase s at) (good_gap s at) l in
             looked (ltb-false 0 n i) ∙ other marks s at least (omega (arith, h, eqb-false at (length s) k)) p.0 p.1 o (length s)
 
-    told : {x : Option Stands} → stands_at marks s at least n ≡ x → Tells x
+    pub told : {x : Option Stands} → stands_at marks s at least n ≡ x → Tells x
     told e = subst Tells e tells
 
     -- by what was answered: something, or nothing good

@@ -96,10 +96,10 @@ fn all_records(list: &[u8], counts: &mut [u64]) {
 }
 
 fn told(rt: &HostRuntime, counts: &[u64]) -> io::Result<()> {
-    report(rt, "accepted", counts, 1)?;
+    report(rt, "accepted ", counts, 1)?;
     report_refusals(rt, counts, 11)?;
-    report(rt, "differences", counts, 0)?;
-    report(rt, "bytes of the list not understood", counts, STRANGE)
+    report(rt, "differences ", counts, 0)?;
+    report(rt, "bytes of the list not understood ", counts, STRANGE)
 }
 
 fn main(rt: HostRuntime) -> io::Result<()> {

@@ -134,10 +134,10 @@ fn main(rt: HostRuntime) -> Result<()> {
     let mut list = File::open(&rt, "list")?;
     let mut counts = [0u64; PLACES];
     each_block(&mut list, |block| all_records(block, &mut counts))?;
-    report(&rt, "days", &counts, MONTH)?;
-    report(&rt, "published weekdays", &counts, DATE)?;
-    report(&rt, "numbers of no date", &counts, NO_NUMBER)?;
-    report(&rt, "no dates", &counts, NO_DATE)?;
-    report(&rt, "differences", &counts, 0)?;
-    report(&rt, "bytes of the list not understood", &counts, STRANGE)
+    report(&rt, "days ", &counts, MONTH)?;
+    report(&rt, "published weekdays ", &counts, DATE)?;
+    report(&rt, "numbers of no date ", &counts, NO_NUMBER)?;
+    report(&rt, "no dates ", &counts, NO_DATE)?;
+    report(&rt, "differences ", &counts, 0)?;
+    report(&rt, "bytes of the list not understood ", &counts, STRANGE)
 }

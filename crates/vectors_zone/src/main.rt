@@ -139,6 +139,7 @@ fn cases(list: &[u8], from: usize, clock: &Clock<'_>, counts: &mut [u64]) -> usi
     ensures { from ≤ result }
 {
     let mut at = from;
+    // A record says where the next one begins.
     while at < list.len() {
         let kind = list[at];
         if (kind < READING) | (GAP < kind) {
@@ -163,6 +164,7 @@ fn changes(list: &[u8], from: usize, ats: &mut [u64], offsets: &mut [u32]) -> He
 {
     let mut count: usize = 0;
     let mut next = from;
+    // A record says where the next one begins.
     while next < list.len() {
         if ats.len() <= count {
             return Held { count, next };
@@ -214,6 +216,7 @@ fn no_record(kind: u8, counts: &mut [u64]) {
 
 fn all_zones(list: &[u8], counts: &mut [u64]) {
     let mut at: usize = 0;
+    // A record says where the next one begins.
     while at < list.len() {
         let kind = list[at];
         if (kind == ZONE) | (kind == SAME) {
@@ -229,11 +232,11 @@ fn main(rt: HostRuntime) -> Result<()> {
     let mut list = File::open(&rt, "list")?;
     let mut counts = [0u64; PLACES];
     each_block(&mut list, |block| all_zones(block, &mut counts))?;
-    report(&rt, "zones", &counts, ZONE)?;
-    report(&rt, "readings of instants", &counts, READING)?;
-    report(&rt, "clear readings", &counts, CLEAR)?;
-    report(&rt, "folds", &counts, FOLD)?;
-    report(&rt, "gaps", &counts, GAP)?;
-    report(&rt, "differences", &counts, 0)?;
-    report(&rt, "bytes of the list not understood", &counts, STRANGE)
+    report(&rt, "zones ", &counts, ZONE)?;
+    report(&rt, "readings of instants ", &counts, READING)?;
+    report(&rt, "clear readings ", &counts, CLEAR)?;
+    report(&rt, "folds ", &counts, FOLD)?;
+    report(&rt, "gaps ", &counts, GAP)?;
+    report(&rt, "differences ", &counts, 0)?;
+    report(&rt, "bytes of the list not understood ", &counts, STRANGE)
 }

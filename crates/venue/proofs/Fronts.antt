@@ -16,9 +16,9 @@ use Rattle.records.specs.Limits.{base}
 use Rattle.records.specs.Book.{refusal, records}
 use Rattle.records.specs.Layout.{transition_kind, rule_kind, event_kind}
 use Rattle.zone.specs.Answers.{Valid}
-use Rattle.venue.specs.Opening.{ats_of, offsets_of, opened, stored, rule_places, event_places}
+use Rattle.venue.specs.Opening.{ats_of, offsets_of, opened, stored, rule_places, event_places, number_opened}
 use Rattle.venue.specs.Reading.{ListedRules, ListedEvents}
-use Rattle.venue.specs.Filled.{Filled}
+use Rattle.venue.specs.Filled.{Filled, Ready}
 use Rattle.venue.specs.declared.opened.Header.{Header}
 use Rattle.venue.proofs.Passing.{few_records, ats_many, offsets_many}
 use Rattle.venue.proofs.Laws.{places_listed, rules_count, events_count, zone_valid, good_coverage}
@@ -41,6 +41,9 @@ module _ {s : List ℕ} {h : Header} (k : Known s h) where
 
   pub events_few : length (event_places s) ≤ base.events
   events_few = let e = events_count s k.accepted in omega (arith, e.0, e.1)
+
+  pub ready : Ready s h.offset0 (ats_of (records s)) (offsets_of (records s)) (rule_places s) (event_places s)
+  ready = record { zone = clock_valid; rules_listed = rules_stand; events_listed = events_stand; few = events_few }
 
   -- the header's counts are no more than the limits
   pub most_transitions : h.transitions ≤ base.transitions
@@ -67,13 +70,10 @@ stored_front s old vs new n z e q =
     ∙ take_front vs (drop (0 + length vs) old)
 
 -- the arrays are filled where a header was answered
-pub known : {s ats offsets rules events : List ℕ} {h : Header} → Filled s h ats offsets rules events → Known s h
-known {s} {ats} {offsets} {rules} {events} {h} w = opened_venue s h (sym w.answer)
+pub known : {s ats offsets rules events : List ℕ} {h : Header} → Filled s (Ok (Some h)) ats offsets rules events → Known s h
+known {s} {ats} {offsets} {rules} {events} {h} w = opened_venue s h w.answer
 
-module _ {s ats offsets rules events : List ℕ} {h : Header} (w : Filled s h ats offsets rules events) where
-  abbrev k : Known s h
-  k = known w
-
+module _ {s ats offsets rules events : List ℕ} {o : Result (Option Header) ℕ} (w : Filled s o ats offsets rules events) {h : Header} (k : Known s h) where
   pub ats_front : take h.transitions ats ≡ ats_of (records s)
   ats_front = stored_front s w.old_ats _ ats _ k.accepted w.ats_are ((counts k).0 ∙ sym (ats_many (records s)))
 
@@ -100,17 +100,20 @@ module _ {s ats offsets rules events : List ℕ} {h : Header} (w : Filled s h at
   events_in = omega (arith, most_events k, w.events_long)
 
   -- and a clock, rules and events may be read from them
+  pub front_ready : Ready s h.offset0 (take h.transitions ats) (take h.transitions offsets) (take h.rules rules) (take h.events events)
+  front_ready = rw (ats_front, offsets_front, rules_front, events_front) (ready k)
+
   pub front_valid : Valid h.offset0 (take h.transitions ats) (take h.transitions offsets)
-  front_valid = rw (ats_front, offsets_front) (clock_valid k)
+  front_valid = front_ready.zone
 
   pub front_rules : ListedRules s (take h.rules rules)
-  front_rules = rw rules_front (rules_stand k)
+  front_rules = front_ready.rules_listed
 
   pub front_events : ListedEvents s (take h.events events)
-  front_events = rw events_front (events_stand k)
+  front_events = front_ready.events_listed
 
   pub front_few : length (take h.events events) ≤ base.events
-  front_few = rw events_front (events_few k)
+  front_few = front_ready.few
 
 -- ---- the lengths
 
@@ -138,19 +141,19 @@ module _ (s : List ℕ) (z : refusal base s ≡ 0) where
   pub events_fit : length (event_places s) ≤ base.events
   events_fit = let c = events_count s z in omega (arith, c.0, c.1)
 
--- what opening answers and stores where it answers a header, in arrays long enough for any book
-pub filled : (s ats offsets rules events : List ℕ) {ats' offsets' rules' events' : List ℕ} {h : Header}
-    → (◌≡◌ {A = Result (Option Header) ℕ} (Ok (Some h)) (opened s))
+-- what opening answers and stores, in arrays long enough for any book
+pub filled : (s ats offsets rules events : List ℕ) {ats' offsets' rules' events' : List ℕ} {o : Result (Option Header) ℕ}
+    → (o ≡ opened s)
     × (ats' ≡ stored s ats (ats_of (records s)))
     × (offsets' ≡ stored s offsets (offsets_of (records s)))
     × (rules' ≡ stored s rules (rule_places s))
     × (events' ≡ stored s events (event_places s))
-    × (0 ≡ refusal base s)
+    × (number_opened o 0 ≡ refusal base s)
     → base.transitions ≤ length ats → base.transitions ≤ length offsets → base.rules ≤ length rules → base.events ≤ length events
-    → Filled s h ats' offsets' rules' events'
+    → Filled s o ats' offsets' rules' events'
 filled s ats offsets rules events e a b c d =
     record {
-      answer = sym e.0;
+      answer = e.0;
       old_ats = ats;
       old_offsets = offsets;
       old_rules = rules;
@@ -175,7 +178,7 @@ pub room_filled : {s ats offsets rules events ats' offsets' rules' events' : Lis
     × (rules ≡ replicate base.rules 0)
     × (events ≡ replicate base.events 0)
     → ats' ≡ stored s ats (ats_of (records s)) → offsets' ≡ stored s offsets (offsets_of (records s)) → rules' ≡ stored s rules (rule_places s)
-    → events' ≡ stored s events (event_places s) → Filled s h ats' offsets' rules' events'
+    → events' ≡ stored s events (event_places s) → Filled s (Ok (Some h)) ats' offsets' rules' events'
 room_filled {s} {ats} {offsets} {rules} {events} k new a b c d =
     filled s ats offsets rules events (sym (known_opened k), a, b, c, d, sym k.accepted) (long_enough base.transitions ats new.0)
     (long_enough base.transitions offsets new.1) (long_enough base.rules rules new.2) (long_enough base.events events new.3)

@@ -1,5 +1,5 @@
 // A book opened: judged first, then what it holds put into a room that the caller lends.
-ghost use Rattle.std.specs.Prelude.{◌≡◌, replicate};
+ghost use Rattle.std.specs.Prelude.{◌≡◌, Some, Ok, replicate};
 ghost use Rattle.records.specs.Book.{records, refusal};
 ghost use Rattle.wire.specs.Fields.{wrote};
 ghost use Rattle.records.specs.Limits.{base};
@@ -137,7 +137,7 @@ impl Room {
 
     // The venue of the book that was opened here.
     pub fn venue<'a>(&'a self, book: &'a [u8], h: Header) -> Venue<'a>
-        requires { Filled book.now h self.now.ats self.now.offsets self.now.rules self.now.events }
+        requires { Filled book.now (Ok (Some h)) self.now.ats self.now.offsets self.now.rules self.now.events }
         ensures { Holds book.now h result }
     {
         let ats = &self.ats[..h.transitions];

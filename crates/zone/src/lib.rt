@@ -14,7 +14,7 @@ use calendar::{FIRST_DAY, LAST_DAY};
 pub use clock::Clock;
 pub use convert::{day_of_reading, reading_at, taken, time_of_reading};
 pub use number::{instant_of, instant_of_seconds, number_bits};
-pub use steady::{steady_day, steady_midnight};
+pub use steady::{steady_day, steady_midnight, steady_until};
 pub use valid::is_valid;
 pub use wide::widest;
 

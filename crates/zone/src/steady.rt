@@ -1,5 +1,6 @@
 // Where no transition is near: one offset for readings and conversions alike.
 ghost use Rattle.std.specs.Prelude.{◌≡◌};
+ghost use Rattle.zone.specs.Answers.{Spaced};
 ghost use Rattle.zone.specs.Clocks.{zone_in};
 ghost use Rattle.zone.specs.Steady.{steady_of, day_by, midnight_by, OnWall, DayOnWall, steady_until};
 
@@ -26,6 +27,23 @@ pub fn steady_midnight(offset: u32, d: Day) -> Instant
     Instant(d.0 as u64 * DAY_NS + MOST_OFFSET_NS - offset as u64 * SECOND_NS)
 }
 
+// The first date from d on near which the clock changes: on the UTC day of its number, on the one before or on the next. Where there is
+// none, the date behind the calendar; outside the calendar, d itself.
+pub fn steady_until(ats: &[u64], d: Day) -> Day
+    requires { Spaced ats.now }
+    ensures { result.0 ≡ steady_until ats.now d.0 }
+{
+    if d.0 < FIRST_DAY {
+        return d;
+    }
+    if LAST_DAY < d.0 {
+        return d;
+    }
+    let day = d.0 as u64;
+    let at = next_at(ats, passed(ats, (day - 1) * DAY_NS));
+    Day(((at - 1) / DAY_NS - 1).clamp(day, LAST_DAY as u64 + 1) as u32)
+}
+
 impl Clock<'_> {
     // The offset from 56 hours before one instant to 56 hours after another, if no transition stands there.
     pub fn steady_offset(&self, from: Instant, to: Instant) -> Option<u32>
@@ -44,19 +62,10 @@ impl Clock<'_> {
         Some(self.offset_after(count))
     }
 
-    // The first date from d on near which the clock changes: on the UTC day of its number, on the one before or on the next. Where there is
-    // none, the date behind the calendar; outside the calendar, d itself.
+    // The first date from d on near which the clock changes, as the function beside it has it.
     pub fn steady_until(&self, d: Day) -> Day
         ensures { result.0 ≡ steady_until self.now.ats.now d.0 }
     {
-        if d.0 < FIRST_DAY {
-            return d;
-        }
-        if LAST_DAY < d.0 {
-            return d;
-        }
-        let day = d.0 as u64;
-        let at = next_at(self.ats, passed(self.ats, (day - 1) * DAY_NS));
-        Day(((at - 1) / DAY_NS - 1).clamp(day, LAST_DAY as u64 + 1) as u32)
+        steady_until(self.ats, d)
     }
 }

@@ -14,13 +14,13 @@ shared_ref_as_front-events c = most_events (known c.requires)
 
 -- the clock, the rules, the events and the venue are what their types promise
 pub invariant_of-result : goal.invariant_of-result
-invariant_of-result c = record { valid = front_valid c.requires }
+invariant_of-result c = record { valid = front_valid c.requires (known c.requires) }
 
 pub invariant_of-result-2 : goal.invariant_of-result-2
-invariant_of-result-2 c = record { listed = front_rules c.requires }
+invariant_of-result-2 c = record { listed = front_rules c.requires (known c.requires) }
 
 pub invariant_of-result-3 : goal.invariant_of-result-3
-invariant_of-result-3 c = record { listed = front_events c.requires; few = front_few c.requires }
+invariant_of-result-3 c = record { listed = front_events c.requires (known c.requires); few = front_few c.requires (known c.requires) }
 
 pub invariant_of-result-4 : goal.invariant_of-result-4
 invariant_of-result-4 c = record { covers = covers (known c.requires) }
@@ -31,10 +31,10 @@ returns c =
     record {
       coverage = refl;
       first = refl;
-      ats = ats_front c.requires;
-      offsets = offsets_front c.requires;
+      ats = ats_front c.requires (known c.requires);
+      offsets = offsets_front c.requires (known c.requires);
       rules_in = refl;
-      rules = rules_front c.requires;
+      rules = rules_front c.requires (known c.requires);
       events_in = refl;
-      events = events_front c.requires;
+      events = events_front c.requires (known c.requires);
     }
